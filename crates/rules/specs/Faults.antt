@@ -1,0 +1,65 @@
+-- Each fault's number, layer and place. Assumes nothing.
+use Prim.Native.Nat.{ℕ}
+use Rattle.rules.specs.declared.fault.Fault.{Fault}
+use Rattle.rules.specs.declared.fault.Fault.the-variants.{LongText, NoSign, Misplaced, LongName, DeepNesting, ManyNodes, ManyLetters, ManyNames, NotAName, RepeatedName, AbsentName, ManyEvents, HighCode, ShortRoom, OutOfForm}
+use Rattle.rules.specs.declared.fault.Layer.{Layer}
+use Rattle.rules.specs.declared.fault.Layer.the-variants.{Signs, Grammar, Names, Records, Files}
+
+abbrev pub numberOf : Fault → ℕ
+numberOf LongText = 1
+numberOf (NoSign at) = 2
+numberOf (Misplaced at) = 3
+numberOf (LongName at) = 4
+numberOf (DeepNesting at) = 5
+numberOf (ManyNodes at) = 6
+numberOf (ManyLetters at) = 7
+numberOf (ManyNames at) = 8
+numberOf (NotAName at) = 9
+numberOf (RepeatedName at) = 10
+numberOf (AbsentName at) = 11
+numberOf ManyEvents = 12
+numberOf (HighCode at) = 13
+numberOf (ShortRoom at) = 15
+numberOf OutOfForm = 21
+
+abbrev pub layerOf : Fault → Layer
+layerOf LongText = Grammar
+layerOf (NoSign at) = Signs
+layerOf (Misplaced at) = Grammar
+layerOf (LongName at) = Signs
+layerOf (DeepNesting at) = Grammar
+layerOf (ManyNodes at) = Grammar
+layerOf (ManyLetters at) = Grammar
+layerOf (ManyNames at) = Names
+layerOf (NotAName at) = Names
+layerOf (RepeatedName at) = Names
+layerOf (AbsentName at) = Names
+layerOf ManyEvents = Records
+layerOf (HighCode at) = Records
+layerOf (ShortRoom at) = Records
+layerOf OutOfForm = Files
+
+abbrev pub layerNumber : Layer → ℕ
+layerNumber Signs = 1
+layerNumber Grammar = 2
+layerNumber Names = 3
+layerNumber Records = 4
+layerNumber Files = 5
+
+-- a byte of a text, a name of a list, an event or a length, as the case says
+abbrev pub placeOf : Fault → ℕ
+placeOf LongText = 512
+placeOf (NoSign at) = at
+placeOf (Misplaced at) = at
+placeOf (LongName at) = at
+placeOf (DeepNesting at) = at
+placeOf (ManyNodes at) = at
+placeOf (ManyLetters at) = at
+placeOf (ManyNames at) = at
+placeOf (NotAName at) = at
+placeOf (RepeatedName at) = at
+placeOf (AbsentName at) = at
+placeOf ManyEvents = 4096
+placeOf (HighCode at) = at
+placeOf (ShortRoom at) = at
+placeOf OutOfForm = 0
