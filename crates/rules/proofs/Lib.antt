@@ -1,0 +1,13 @@
+pub mod Accepted
+pub mod ClassTable
+pub mod Fitting
+pub mod Fronts
+pub mod Levels
+pub mod NameBytes
+pub mod Numbering
+pub mod OneTree
+pub mod Outcome
+pub mod Places
+pub mod SameName
+pub mod Steps
+pub mod First

@@ -1,9 +1,9 @@
 -- Each fault's number, layer and place. Assumes nothing.
 use Prim.Native.Nat.{ℕ}
 use Rattle.rules.specs.declared.fault.Fault.{Fault}
-use Rattle.rules.specs.declared.fault.Fault.the-variants.{LongText, NoSign, Misplaced, LongName, DeepNesting, ManyNodes, ManyLetters, ManyNames, NotAName, RepeatedName, AbsentName, ManyEvents, HighCode, ShortRoom, OutOfForm}
+use Rattle.rules.specs.declared.fault.Fault.the-variants.{LongText, NoSign, Misplaced, LongName, DeepNesting, ManyNodes, ManyLetters, ManyNames, NotAName, RepeatedName, AbsentName, ManyEvents, HighCode, InDoubt, ShortBuffer, OutOfForm}
 use Rattle.rules.specs.declared.fault.Layer.{Layer}
-use Rattle.rules.specs.declared.fault.Layer.the-variants.{Signs, Grammar, Names, Records, Files}
+use Rattle.rules.specs.declared.fault.Layer.the-variants.{Signs, Grammar, Names, Traces, Files}
 
 abbrev pub numberOf : Fault → ℕ
 numberOf LongText = 1
@@ -19,7 +19,8 @@ numberOf (RepeatedName at) = 10
 numberOf (AbsentName at) = 11
 numberOf ManyEvents = 12
 numberOf (HighCode at) = 13
-numberOf (ShortRoom at) = 15
+numberOf (InDoubt at) = 14
+numberOf (ShortBuffer at) = 15
 numberOf OutOfForm = 21
 
 abbrev pub layerOf : Fault → Layer
@@ -34,16 +35,17 @@ layerOf (ManyNames at) = Names
 layerOf (NotAName at) = Names
 layerOf (RepeatedName at) = Names
 layerOf (AbsentName at) = Names
-layerOf ManyEvents = Records
-layerOf (HighCode at) = Records
-layerOf (ShortRoom at) = Records
+layerOf ManyEvents = Traces
+layerOf (HighCode at) = Traces
+layerOf (InDoubt at) = Traces
+layerOf (ShortBuffer at) = Traces
 layerOf OutOfForm = Files
 
 abbrev pub layerNumber : Layer → ℕ
 layerNumber Signs = 1
 layerNumber Grammar = 2
 layerNumber Names = 3
-layerNumber Records = 4
+layerNumber Traces = 4
 layerNumber Files = 5
 
 -- a byte of a text, a name of a list, an event or a length, as the case says
@@ -61,5 +63,6 @@ placeOf (RepeatedName at) = at
 placeOf (AbsentName at) = at
 placeOf ManyEvents = 4096
 placeOf (HighCode at) = at
-placeOf (ShortRoom at) = at
+placeOf (InDoubt at) = at
+placeOf (ShortBuffer at) = at
 placeOf OutOfForm = 0

@@ -1,3 +1,9 @@
 pub mod Faults
 pub mod Names
 pub mod Tree
+pub mod Signs
+pub mod Scan
+pub mod Grammar
+pub mod Reading
+pub mod First
+pub mod Rules

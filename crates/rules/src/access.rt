@@ -2,7 +2,8 @@
 ghost use mathlib.Core.Path.{_≡_};
 ghost use mathlib.Core.Bool.{true};
 ghost use mathlib.Core.List.{_∷_, []};
-ghost use lib.ListN.{take};
+ghost use lib.ListN.{length, take};
+ghost use Rattle.rules.specs.Rules.{nodeCount, letterCount, nodesOf, lettersOf};
 ghost use Rattle.rules.specs.declared.node.Node.the-variants.{Truth};
 use crate::name::Name;
 use crate::node::Node;
@@ -12,19 +13,19 @@ use crate::rule::Table;
 
 impl Table {
     // The table of the rule `true`.
-    fn verum() -> Table
+    pub(crate) fn verum() -> Table
         ensures size { λ r. ⌜ r .size ≡ 1 ⌝ }
         ensures count { λ r. ⌜ r .count ≡ 0 ⌝ }
         ensures nodes { λ r. ⌜ take 1 (r .nodes) ≡ Truth true ∷ [] ⌝ }
     {
-        let name = Name {
-            bytes: [0; 12],
-            len: 0,
+        let letter = Letter {
+            name: Name::none(),
+            at: 0,
         };
         Table {
             nodes: [Node::Truth(true); 64],
             size: 1,
-            letters: [Letter { name, at: 0 }; 8],
+            letters: [letter; 8],
             count: 0,
         }
     }
@@ -33,8 +34,8 @@ impl Table {
 impl Rule {
     // The rule `true`.
     pub fn new() -> Rule
-        ensures nodes { λ r. ⌜ take (r .table .size) (r .table .nodes) ≡ Truth true ∷ [] ⌝ }
-        ensures letters { λ r. ⌜ take (r .table .count) (r .table .letters) ≡ [] ⌝ }
+        ensures nodes { λ r. ⌜ nodesOf r ≡ Truth true ∷ [] ⌝ }
+        ensures letters { λ r. ⌜ lettersOf r ≡ [] ⌝ }
     {
         Rule {
             table: Table::verum(),
@@ -43,14 +44,16 @@ impl Rule {
 
     // The nodes, operands first; the last is the whole rule.
     pub fn nodes(&self) -> &[Node]
-        ensures { λ r. ⌜ now r ≡ take (now (self .entry) .table .size) (now (self .entry) .table .nodes) ⌝ }
+        ensures same { λ r. ⌜ now r ≡ nodesOf (now (self .entry)) ⌝ }
+        ensures long { λ r. ⌜ length (now r) ≡ nodeCount (now (self .entry)) ⌝ }
     {
         &self.table.nodes[0..self.table.size]
     }
 
     // The letters, by first appearance.
     pub fn letters(&self) -> &[Letter]
-        ensures { λ r. ⌜ now r ≡ take (now (self .entry) .table .count) (now (self .entry) .table .letters) ⌝ }
+        ensures same { λ r. ⌜ now r ≡ lettersOf (now (self .entry)) ⌝ }
+        ensures long { λ r. ⌜ length (now r) ≡ letterCount (now (self .entry)) ⌝ }
     {
         &self.table.letters[0..self.table.count]
     }

@@ -27,8 +27,10 @@ pub enum Fault {
     ManyEvents,
     // the code of this event is not below the reading's number of codes
     HighCode(usize),
+    // a letter of the rule is in doubt at this event, and the verdict takes no doubt
+    InDoubt(usize),
     // lent memory is shorter than this length
-    ShortRoom(usize),
+    ShortBuffer(usize),
     // a line of a file is out of form
     OutOfForm,
 }
@@ -39,6 +41,6 @@ pub enum Layer {
     Signs,
     Grammar,
     Names,
-    Records,
+    Traces,
     Files,
 }

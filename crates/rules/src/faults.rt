@@ -22,7 +22,8 @@ impl Fault {
             Fault::AbsentName(_) => 11,
             Fault::ManyEvents => 12,
             Fault::HighCode(_) => 13,
-            Fault::ShortRoom(_) => 15,
+            Fault::InDoubt(_) => 14,
+            Fault::ShortBuffer(_) => 15,
             Fault::OutOfForm => 21,
         }
     }
@@ -41,7 +42,8 @@ impl Fault {
             | Fault::NotAName(_)
             | Fault::RepeatedName(_)
             | Fault::AbsentName(_) => Layer::Names,
-            Fault::ManyEvents | Fault::HighCode(_) | Fault::ShortRoom(_) => Layer::Records,
+            Fault::ManyEvents | Fault::HighCode(_) | Fault::InDoubt(_) | Fault::ShortBuffer(_) =>
+                Layer::Traces,
             Fault::OutOfForm => Layer::Files,
         }
     }
@@ -62,7 +64,8 @@ impl Fault {
             | Fault::RepeatedName(at)
             | Fault::AbsentName(at)
             | Fault::HighCode(at)
-            | Fault::ShortRoom(at) => at,
+            | Fault::InDoubt(at)
+            | Fault::ShortBuffer(at) => at,
             Fault::ManyEvents => 4096,
             Fault::OutOfForm => 0,
         }
@@ -77,7 +80,7 @@ impl Layer {
             Layer::Signs => 1,
             Layer::Grammar => 2,
             Layer::Names => 3,
-            Layer::Records => 4,
+            Layer::Traces => 4,
             Layer::Files => 5,
         }
     }

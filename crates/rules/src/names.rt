@@ -1,4 +1,5 @@
 // What a name spells, and when two names are the same.
+ghost use mathlib.Core.List.{[]};
 ghost use mathlib.Core.Path.{_≡_};
 ghost use Rattle.rules.specs.Names.{spelled, sameName};
 use crate::name::Name;
@@ -15,5 +16,15 @@ impl Name {
         ensures { λ r. ⌜ now r ≡ spelled (now (self .entry)) ⌝ }
     {
         &self.bytes[0..self.len.min(12) as usize]
+    }
+
+    // A name of no bytes, to fill a table with.
+    pub fn none() -> Name
+        ensures { λ r. ⌜ spelled r ≡ [] ⌝ }
+    {
+        Name {
+            bytes: [0; 12],
+            len: 0,
+        }
     }
 }

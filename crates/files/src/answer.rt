@@ -1,0 +1,10 @@
+// What is said of a file: the verdict on its events, or its first fault.
+use rules::Fault;
+use verdicts::YesNo;
+
+#[derive(Clone, Copy)]
+pub enum Answer {
+    Verdict(YesNo),
+    // a fault, and the line of the file that has it
+    Refused(Fault, usize),
+}

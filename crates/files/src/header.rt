@@ -1,0 +1,39 @@
+// The lines before the events: reading, names and rule.
+use crate::lines::Lines;
+use crate::lines::fields;
+use crate::stop::Stop;
+use crate::stop::StopFromAllocError;
+use crate::stop::StopFromFault;
+use readings::Words;
+use rules::Fault;
+use rules::Rule;
+use std::alloc::Global;
+
+// The reading's kind. There is one so far.
+pub fn reading_line(lines: &mut Lines) -> Result<(), Fault> {
+    match lines.next_line()? {
+        b"reading\twords" => Ok(()),
+        _ => Err(Fault::OutOfForm),
+    }
+}
+
+// The reading, from the line with its names.
+pub fn names_line(heap: Global, lines: &mut Lines) -> Result<Words, Stop> {
+    let line = lines.next_line()?;
+    let fields = fields(heap, line)?;
+    let [b"names", names @ ..] = fields.as_slice() else {
+        return Err(Stop::Fault(Fault::OutOfForm));
+    };
+    Words::check(names)?;
+    Ok(Words::new(names))
+}
+
+// The rule as read: its text is all behind the first tab.
+pub fn rule_line(lines: &mut Lines) -> Result<Rule, Fault> {
+    let [b'r', b'u', b'l', b'e', b'\t', text @ ..] = lines.next_line()? else {
+        return Err(Fault::OutOfForm);
+    };
+    let mut rule = Rule::new();
+    rule.read(text)?;
+    Ok(rule)
+}

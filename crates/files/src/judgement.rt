@@ -1,0 +1,87 @@
+// From a file's bytes to the report.
+ghost use mathlib.Core.Path.{_≡_};
+ghost use Prim.Native.Nat.{_<_, _≤_};
+ghost use lib.ListN.{length};
+ghost use Rattle.std.specs.Of.String.{string-bytes};
+ghost use Rattle.std.specs.Of.Vec.{vec-len};
+ghost use Rattle.std.specs.Vec.{made};
+ghost use Rattle.rules.specs.declared.fault.Fault.the-variants.{OutOfForm};
+ghost use Rattle.files.specs.declared.answer.Answer.the-variants.{Refused};
+ghost use Rattle.files.specs.Report.{reportOf};
+use crate::answer::Answer;
+use crate::display::AnswerDisplay;
+use crate::event_lines::events;
+use crate::header::names_line;
+use crate::header::reading_line;
+use crate::header::rule_line;
+use crate::lines::Lines;
+use crate::stop::Stop;
+use crate::stop::StopFromAllocError;
+use crate::stop::StopFromFault;
+use readings::BoundRule;
+use readings::Words;
+use readings::WordsReading;
+use rules::Fault;
+use std::alloc::AllocError;
+use std::alloc::Global;
+use verdicts::YesNo;
+use verdicts::YesNoScale;
+use verdicts::evaluate;
+use verdicts::valuate;
+
+// The most bytes of a file.
+const FILE: usize = 60_000;
+
+// Two values for each of a rule's nodes, of which there are at most 64.
+const SCRATCH: usize = 128;
+
+// The verdict on a trace.
+fn verdict(heap: Global, bound: &BoundRule<Words>, trace: &[u32]) -> Result<YesNo, Stop>
+    requires { ⌜ length (now trace) ≤ 4095 ⌝ }
+{
+    let k = bound.rule().letters().len();
+    let mut valuation = vec![in heap; YesNo::Broken; trace.len() * k]?;
+    valuate(bound, trace, valuation.as_mut_slice())?;
+    let mut scratch = [YesNo::Broken; SCRATCH];
+    let verdict = evaluate(
+        bound.rule(),
+        trace.len(),
+        valuation.as_slice(),
+        &mut scratch,
+    )?;
+    Ok(verdict)
+}
+
+// The verdict on what the lines say, or why there is none.
+fn judged(heap: Global, lines: &mut Lines) -> Result<YesNo, Stop> {
+    reading_line(lines)?;
+    let words = names_line(heap, lines)?;
+    let rule = rule_line(lines)?;
+    BoundRule::check(&rule, &words)?;
+    let bound = BoundRule::new(rule, words);
+    let trace = events(heap, lines, &words)?;
+    verdict(heap, &bound, trace.as_slice())
+}
+
+// What is said of a file. A fault has the number of the line where the reading of lines stopped.
+pub fn judge(heap: Global, file: &[u8]) -> Result<Answer, AllocError>
+    ensures { λ r. ⌜ (60000 < length (now (file .entry)) → made r (λ a. a ≡ Refused OutOfForm 0)) ⌝ }
+{
+    if file.len() > FILE {
+        return Ok(Answer::Refused(Fault::OutOfForm, 0));
+    }
+    let mut lines = Lines::new(file);
+    match judged(heap, &mut lines) {
+        Ok(verdict) => Ok(Answer::Verdict(verdict)),
+        Err(Stop::Fault(fault)) => Ok(Answer::Refused(fault, lines.number())),
+        Err(Stop::Memory) => Err(AllocError),
+    }
+}
+
+// The report on a file, as text.
+pub fn report(heap: Global, file: &[u8]) -> Result<String, AllocError>
+    ensures { λ r. ⌜ (60000 < length (now (file .entry)) → made r (λ t. string-bytes t ≡ reportOf (Refused OutOfForm 0))) ⌝ }
+{
+    let answer = judge(heap, file)?;
+    format!(heap, "{answer}")
+}

@@ -1,0 +1,13 @@
+// A log file: its lines, and the report on it.
+mod answer;
+mod display;
+mod event_lines;
+mod header;
+mod judgement;
+mod lines;
+mod stop;
+
+pub use answer::Answer;
+pub use display::AnswerDisplay;
+pub use judgement::judge;
+pub use judgement::report;

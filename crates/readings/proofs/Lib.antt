@@ -1,0 +1,4 @@
+pub mod Bits
+pub mod Finding
+pub mod Gathering
+pub mod Worths

@@ -1,0 +1,15 @@
+// Readings: what an event's code says of the names that a rule is about.
+mod binding;
+mod bound;
+mod listed;
+mod mark;
+mod names;
+mod reading;
+mod words;
+mod words_reading;
+
+pub use bound::BoundRule;
+pub use mark::Mark;
+pub use reading::Reading;
+pub use words::Words;
+pub use words_reading::WordsReading;

@@ -1,0 +1,7 @@
+pub mod Fill
+pub mod Flat
+pub mod Lift
+pub mod Recur
+pub mod Rules
+pub mod Steps
+pub mod Valuing
