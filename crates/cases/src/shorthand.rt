@@ -50,7 +50,7 @@ fn push_times(out: &mut Vec<u8>, times: usize, piece: &[u8]) -> Result<(), Alloc
 }
 
 // The file that a line of shorthand stands for.
-pub fn expanded(heap: Global, case: &[u8]) -> Result<Vec<u8>, AllocError> {
+pub(crate) fn expanded(heap: Global, case: &[u8]) -> Result<Vec<u8>, AllocError> {
     let mut out = Vec::new(heap);
     let mut rest = case;
     while let [b, after @ ..] = rest {

@@ -35,7 +35,7 @@ fn event(words: &Words, line: &[u8]) -> Result<u32, Fault> {
 }
 
 // The codes of all events, up to the end of the file.
-pub fn events(heap: Global, lines: &mut Lines, words: &Words) -> Result<Vec<u32>, Stop>
+pub(crate) fn events(heap: Global, lines: &mut Lines, words: &Words) -> Result<Vec<u32>, Stop>
     ensures { λ r. ⌜ made r (λ v. vec-len v ≤ 4095) ⌝ }
 {
     let mut trace = Vec::new(heap);

@@ -10,7 +10,7 @@ use rules::Rule;
 use std::alloc::Global;
 
 // The reading's kind. There is one so far.
-pub fn reading_line(lines: &mut Lines) -> Result<(), Fault> {
+pub(crate) fn reading_line(lines: &mut Lines) -> Result<(), Fault> {
     match lines.next_line()? {
         b"reading\twords" => Ok(()),
         _ => Err(Fault::OutOfForm),
@@ -18,7 +18,7 @@ pub fn reading_line(lines: &mut Lines) -> Result<(), Fault> {
 }
 
 // The reading, from the line with its names.
-pub fn names_line(heap: Global, lines: &mut Lines) -> Result<Words, Stop> {
+pub(crate) fn names_line(heap: Global, lines: &mut Lines) -> Result<Words, Stop> {
     let line = lines.next_line()?;
     let fields = fields(heap, line)?;
     let [b"names", names @ ..] = fields.as_slice() else {
@@ -29,7 +29,7 @@ pub fn names_line(heap: Global, lines: &mut Lines) -> Result<Words, Stop> {
 }
 
 // The rule as read: its text is all behind the first tab.
-pub fn rule_line(lines: &mut Lines) -> Result<Rule, Fault> {
+pub(crate) fn rule_line(lines: &mut Lines) -> Result<Rule, Fault> {
     let [b'r', b'u', b'l', b'e', b'\t', text @ ..] = lines.next_line()? else {
         return Err(Fault::OutOfForm);
     };

@@ -60,7 +60,7 @@ impl<'a> Lines<'a> {
 }
 
 // The fields of a line, parted by tabs: one more than it has tabs.
-pub fn fields<'a>(heap: Global, line: &'a [u8]) -> Result<Vec<&'a [u8]>, AllocError> {
+pub(crate) fn fields<'a>(heap: Global, line: &'a [u8]) -> Result<Vec<&'a [u8]>, AllocError> {
     let mut fields = Vec::new(heap);
     let mut rest = line;
     loop {

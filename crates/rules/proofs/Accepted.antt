@@ -1,5 +1,5 @@
 -- A text that the grammar derives within the limits is accepted. Assumes nothing.
-use mathlib.Core.Path.{_≡_, refl, sym, ap, _∙_}
+use mathlib.Core.Path.{refl, sym, ap}
 use mathlib.Core.List.{List, [], _∷_, _++_}
 use Prim.Native.Nat.{ℕ, _+_, _≤_, _<_}
 use native.Mathlib.Omega.{arith}
@@ -50,4 +50,4 @@ pub accepted : {s : List ℕ} → Within s → Accepts s (want 0 0 [])
 accepted w =
     let small = w .small in
     let σ = have 0 (0 + size (w .tree)) (namesOf (gather [] (w .tree))) in
-    record { at = w .rest; in-state = σ; leads = through (w .reads) 0 0 [] (w .shallow) (omega arith) (w .few); ends = ap (λ x. turn x (w .rest) σ) (w .ends) }
+    record { at = w .rest; in-state = σ; leads = through (w .reads) 0 0 [] (w .shallow) (omega arith) (w .few); ends = ap (λ x. turn x (w .rest) σ) (w .ends .1) }

@@ -9,7 +9,7 @@ use native.Mathlib.Omega.{arith}
 use lib.ListN.{length}
 use Rattle.std.proofs.shelf.Lists.{getD-append-left, getD-append-right, getD-take, length-append, length-push, length-take-le}
 use Rattle.std.proofs.shelf.Tests.{cases-lt, lt-ltb, and-from}
-use Rattle.rules.specs.Names.{lettersOf, numbered}
+use Rattle.rules.specs.Names.{tableLetters, numbered}
 use Rattle.rules.specs.Reading.{Whole}
 use Rattle.rules.specs.Tree.{Tree, leaf, truth, before, between, size, flatten, nodeAt, fits}
 use Rattle.rules.specs.declared.node.Node.{Node}
@@ -84,7 +84,7 @@ below-known l (between o t u) k = (below-known l t (k .0), below-known l u (k .1
 
 pub whole-fits : {s : List ℕ} (b : Table) → Whole s b → b .count ≤ length (b .letters) → (i : ℕ) → i < b .size → fits (b .count) i (nodeAt (b .nodes) i) ≡ true
 whole-fits b w h i l =
-    let L = lettersOf b in
+    let L = tableLetters b in
     let T = numbered L (w .tree) in
     let known : Known L (w .tree) = subst (λ z. Known z (w .tree)) (sym (w .letters-are)) (gather-known [] (w .tree)) in
     let below : Below (b .count) T = subst (λ n. Below n T) (length-take-le (b .count) (b .letters) h) (below-known L (w .tree) known) in

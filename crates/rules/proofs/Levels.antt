@@ -9,7 +9,7 @@ use native.Mathlib.Omega.{arith}
 use lib.Dec.{eqb}
 use lib.ListN.{length, take}
 use Rattle.rules.specs.Signs.{sign, lex}
-use Rattle.rules.specs.Names.{place, added, namesOf, namesIn, lettersOf, nodesOf, letterAt, gather, numbered, Numbered}
+use Rattle.rules.specs.Names.{place, added, namesOf, namesIn, tableLetters, tableNodes, letterAt, gather, numbered, Numbered}
 use Rattle.rules.specs.Scan.{want, have, step, halt, here, onward, Halts, NextStep}
 use Rattle.rules.specs.Grammar.{rankOf, rightward, signRank, lexRank, rankAt, Reads, a-name, a-truth, a-before, a-group, up, to-left, to-right}
 use Rattle.rules.specs.Reading.{Put, Parsed}
@@ -29,7 +29,7 @@ use Rattle.rules.proofs.Numbering.{names-noted, numbered-still, size-numbered}
 use Rattle.rules.proofs.Steps.{trans, later, at-once, renumber, step-name, step-truth, step-before, step-open, step-between, step-close}
 
 -- `put` leaves the letters
-same-letters : {b e : Table} {n : Node} {z : ℕ} → Put b e n z → lettersOf b ≡ lettersOf e
+same-letters : {b e : Table} {n : Node} {z : ℕ} → Put b e n z → tableLetters b ≡ tableLetters e
 same-letters w = sym (λ i. take (w .count i) (w .letters i))
 
 -- OPERANDS
@@ -42,7 +42,7 @@ name-parsed {N} {s} {r} {d} {p} {a} {b} {c} {x} {k} {w} e h m u =
     let j = u .count in
     let f = m .few in
     let same = same-letters u in
-    let names : added (namesIn a) w ≡ namesIn c = sym (names-noted (lettersOf a) (letterAt N s w)) ∙ ap namesOf (sym (m .keeps) ∙ same) in
+    let names : added (namesIn a) w ≡ namesIn c = sym (names-noted (tableLetters a) (letterAt N s w)) ∙ ap namesOf (sym (m .keeps) ∙ same) in
     let at : k ≡ place (namesIn c) w = m .is ∙ ap (λ z. place (namesOf z) w) same in
     record {
       tree = leaf (letterAt N s w);
@@ -86,17 +86,17 @@ before-parsed {N} {s} {m} {r} {d} {p} {a} {b} {c} {x} {y} {u} e h q w =
     let qf = q .fits in
     let qs = q .shorter in
     let same = same-letters w in
-    let T = numbered (lettersOf c) (q .tree) in
-    let at : y ≡ a .size + size T - 1 = omega (arith, size-numbered (lettersOf c) (q .tree)) in
+    let T = numbered (tableLetters c) (q .tree) in
+    let at : y ≡ a .size + size T - 1 = omega (arith, size-numbered (tableLetters c) (q .tree)) in
     let less : length m < length s = shorter s e (λ no. let z : _≡_ {A = ℕ} 0 1 = cc in omega arith) in
-    let inner : nodesOf b ≡ nodesOf a ++ flatten T (a .size) = q .wrote ∙ ap (λ z. nodesOf a ++ flatten (numbered z (q .tree)) (a .size)) same in
+    let inner : tableNodes b ≡ tableNodes a ++ flatten T (a .size) = q .wrote ∙ ap (λ z. tableNodes a ++ flatten (numbered z (q .tree)) (a .size)) same in
     record {
       tree = before u (q .tree);
       reads = a-before e (q .reads);
       scans = onward (step-before s m d (a .size + p) (namesIn a) e h) (renumber (omega arith) (omega arith) (ap namesOf same) (q .scans));
       long = omega arith;
       fits = omega arith;
-      wrote = w .nodes ∙ ap (λ k. k ++ Node.Before u y ∷ []) inner ∙ append-assoc (nodesOf a) (flatten T (a .size)) (Node.Before u y ∷ []) ∙ ap (λ k. nodesOf a ++ (flatten T (a .size) ++ Node.Before u k ∷ [])) at;
+      wrote = w .nodes ∙ ap (λ k. k ++ Node.Before u y ∷ []) inner ∙ append-assoc (tableNodes a) (flatten T (a .size)) (Node.Before u y ∷ []) ∙ ap (λ k. tableNodes a ++ (flatten T (a .size) ++ Node.Before u k ∷ [])) at;
       notes = sym same ∙ q .notes;
       few = omega arith;
       root = omega arith;
@@ -181,20 +181,20 @@ two-parsed {N} {k} {j} {s} {m} {n} {r} {d} {p} {a} {b} {c} {e} {x} {y} {z} {o} P
     let t = P .tree in
     let u = Q .tree in
     let same = same-letters w in
-    let A = nodesOf a in
-    let T = numbered (lettersOf e) t in
-    let U = numbered (lettersOf e) u in
-    let st = size-numbered (lettersOf e) t in
-    let su = size-numbered (lettersOf e) u in
+    let A = tableNodes a in
+    let T = numbered (tableLetters e) t in
+    let U = numbered (tableLetters e) u in
+    let st = size-numbered (tableLetters e) t in
+    let su = size-numbered (tableLetters e) u in
     let F = flatten T (a .size) in
     let G = flatten U (a .size + size T) in
     let V = Node.Between o x y ∷ [] in
-    let left : numbered (lettersOf b) t ≡ T = ap (λ z. numbered z t) (P .notes) ∙ sym (numbered-still (lettersOf a) t u) ∙ ap (λ z. numbered (gather z u) t) (sym (P .notes)) ∙ ap (λ z. numbered z t) (sym (Q .notes) ∙ same) in
+    let left : numbered (tableLetters b) t ≡ T = ap (λ z. numbered z t) (P .notes) ∙ sym (numbered-still (tableLetters a) t u) ∙ ap (λ z. numbered (gather z u) t) (sym (P .notes)) ∙ ap (λ z. numbered z t) (sym (Q .notes) ∙ same) in
     let atb : b .size ≡ a .size + size T = omega arith in
     let atx : x ≡ a .size + size T - 1 = omega arith in
     let aty : y ≡ a .size + size T + size U - 1 = omega arith in
-    let front : nodesOf b ≡ A ++ F = P .wrote ∙ ap (λ z. A ++ flatten z (a .size)) left in
-    let all : nodesOf c ≡ (A ++ F) ++ G = Q .wrote ∙ (λ i. front i ++ flatten (numbered (same i) u) (atb i)) in
+    let front : tableNodes b ≡ A ++ F = P .wrote ∙ ap (λ z. A ++ flatten z (a .size)) left in
+    let all : tableNodes c ≡ (A ++ F) ++ G = Q .wrote ∙ (λ i. front i ++ flatten (numbered (same i) u) (atb i)) in
     record {
       tree = between o t u;
       reads = reads;

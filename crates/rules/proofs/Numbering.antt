@@ -11,7 +11,7 @@ use lib.ListN.{length, getD, set, take, drop}
 use lib.Seq.{drop-cons}
 use Rattle.std.proofs.shelf.Lists.{drop-all, append-nil, append-assoc, map-append, length-map, length-take-le, take-more-set, length-append, length-push}
 use Rattle.std.proofs.shelf.Tests.{cond-true, cond-false, cond-both, lt-ltb, le-ltb, ltb-true, ltb-false, cases-bool}
-use Rattle.rules.specs.Names.{spelled, sameName, namesOf, place, added, noted, gather, numbered, lettersOf, namesIn}
+use Rattle.rules.specs.Names.{spelled, sameName, namesOf, place, added, noted, gather, numbered, tableLetters, namesIn}
 use Rattle.rules.specs.Tree.{Tree, leaf, truth, before, between, size}
 use Rattle.rules.specs.declared.name.Name.{Name}
 use Rattle.rules.specs.declared.rule.Letter.{Letter}
@@ -77,15 +77,15 @@ place-new l x h =
 
 -- ONE LETTER MORE
 
-pub known-letter : (a : Table) (x : Letter) → a .count ≤ length (a .letters) → place (namesIn a) (x .name) < a .count → lettersOf a ≡ noted (lettersOf a) x
+pub known-letter : (a : Table) (x : Letter) → a .count ≤ length (a .letters) → place (namesIn a) (x .name) < a .count → tableLetters a ≡ noted (tableLetters a) x
 known-letter a x h k =
     let n = length-take-le (a .count) (a .letters) h in
-    sym (cond-true (ltb (place (namesIn a) (x .name)) (length (lettersOf a))) (lettersOf a) _ (lt-ltb _ _ (omega (arith, n))))
+    sym (cond-true (ltb (place (namesIn a) (x .name)) (length (tableLetters a))) (tableLetters a) _ (lt-ltb _ _ (omega (arith, n))))
 
-pub new-letter : (a : Table) (x : Letter) → a .count < length (a .letters) → a .count ≤ place (namesIn a) (x .name) → take (a .count + 1) (set (a .letters) (a .count) x) ≡ noted (lettersOf a) x
+pub new-letter : (a : Table) (x : Letter) → a .count < length (a .letters) → a .count ≤ place (namesIn a) (x .name) → take (a .count + 1) (set (a .letters) (a .count) x) ≡ noted (tableLetters a) x
 new-letter a x h k =
     let n = length-take-le (a .count) (a .letters) (omega arith) in
-    take-more-set (a .letters) (a .count) x h ∙ sym (cond-false (ltb (place (namesIn a) (x .name)) (length (lettersOf a))) (lettersOf a) (lettersOf a ++ x ∷ []) (le-ltb _ _ (omega (arith, n))))
+    take-more-set (a .letters) (a .count) x h ∙ sym (cond-false (ltb (place (namesIn a) (x .name)) (length (tableLetters a))) (tableLetters a) (tableLetters a ++ x ∷ []) (le-ltb _ _ (omega (arith, n))))
 
 pub names-noted : (l : List Letter) (x : Letter) → namesOf (noted l x) ≡ added (namesOf l) (x .name)
 names-noted l x =

@@ -1,6 +1,6 @@
 -- A text stands for one tree at most. Assumes nothing.
 use mathlib.Core.Path.{_≡_, refl, sym, ap, subst, subst₂, subst₃, _∙_}
-use mathlib.Core.Bool.{Bool, true, false}
+use mathlib.Core.Bool.{true, false}
 use mathlib.Core.List.{List}
 use mathlib.Core.Logic.{⊎-elim}
 use Prim.Native.Nat.{ℕ, zero, suc, _+_, _-_, _*_, _≤_, _<_}
@@ -16,7 +16,6 @@ use Rattle.rules.specs.declared.node.Binary.the-variants.{Until, And, Xor, Or,
 use Rattle.rules.specs.declared.rule.Letter.{Letter}
 use Rattle.rules.specs.declared.sign.Sign.{Sign}
 use Rattle.rules.specs.declared.sign.Sign.the-variants.{Before, Between, Truth, Open, Close, End}
-use Rattle.rules.specs.declared.sign.Stop.{Stop}
 use Rattle.rules.proofs.Fronts.{shorter, shorter-before, shorter-between, shorter-open}
 use Rattle.rules.proofs.Levels.{one-side, rank-next}
 
@@ -181,5 +180,5 @@ one-at (suc f) n k s r q t u h x y p j =
     (cases-lt k 7)
 
 pub one-tree : (s : List ℕ) → OneTree s
-one-tree s t u r q v w x e y g =
-    one-at (suc (8 * length s + 6)) (length s) 1 s r q t u (omega arith) x y (omega (arith, rank-next r e)) (omega (arith, rank-next q g)) .1
+one-tree s t u r q x e y g =
+    one-at (suc (8 * length s + 6)) (length s) 1 s r q t u (omega arith) x y (omega (arith, rank-next r (e .1))) (omega (arith, rank-next q (g .1))) .1

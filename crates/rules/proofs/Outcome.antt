@@ -4,7 +4,8 @@ use mathlib.Core.List.{List, []}
 use Prim.Native.Nat.{ℕ, _≤_, _<_}
 use native.Mathlib.Omega.{arith}
 use lib.ListN.{length}
-use Rattle.rules.specs.Scan.{State, want, step, Out, go, halt, done, Reach, here, onward, Halts, Accepts}
+use Rattle.rules.specs.Scan.{State, want, have, turn, step, Out, go, halt, done, Reach, here, onward, Halts, Accepts}
+use Rattle.rules.specs.Names.{namesIn}
 use Rattle.rules.specs.Reading.{Whole, Within, Refused, too-long, first, faultOf}
 use Rattle.rules.specs.declared.fault.Fault.{Fault}
 use Rattle.rules.specs.declared.rule.Table.{Table}
@@ -59,7 +60,9 @@ only-first {s} h x (first k i y) = ap (faultOf (length s)) (one-fault x y)
 
 pub never-whole : {s : List ℕ} {b : Table} {f : Fault} → length s ≤ 512 → Whole s b → Refused s f → ⊥
 never-whole h w (too-long k) = omega arith
-never-whole h w (first k i x) = not-both x (record { at = w .rest; in-state = _; leads = w .scans; ends = w .ends })
+never-whole {b = b} h w (first k i x) =
+    let σ = have 0 (b .size) (namesIn b) in
+    not-both x (record { at = w .rest; in-state = σ; leads = w .scans; ends = ap (λ l. turn l (w .rest) σ) (w .ends .1) })
 
 pub never-within : {s : List ℕ} {f : Fault} → Refused s f → Within s → ⊥
 never-within (too-long k) w = let h = w .short in omega arith

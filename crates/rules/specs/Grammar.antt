@@ -70,6 +70,10 @@ Shallow d (up x) = Shallow d x
 Shallow d (to-left i g x l y) = Shallow d x × Shallow d y
 Shallow d (to-right i g x l y) = Shallow d x × Shallow d y
 
+-- nothing but blanks is left
+abbrev pub Ended : List ℕ → Type 0
+Ended s = (x : List ℕ) × (lex s ≡ sign End x)
+
 -- ONE TREE: a text stands for one tree at most
 abbrev pub OneTree : List ℕ → Type 0
-OneTree s = (t u : Tree Letter) (r q x y : List ℕ) → Reads (length s) 1 s r t → lex r ≡ sign End x → Reads (length s) 1 s q u → lex q ≡ sign End y → t ≡ u
+OneTree s = (t u : Tree Letter) (r q : List ℕ) → Reads (length s) 1 s r t → Ended r → Reads (length s) 1 s q u → Ended q → t ≡ u

@@ -54,20 +54,20 @@ numbered l (truth v) = truth v
 numbered l (before u t) = before u (numbered l t)
 numbered l (between o t u) = between o (numbered l t) (numbered l u)
 
-abbrev pub lettersOf : Table → List Letter
-lettersOf a = take (a .count) (a .letters)
+abbrev pub tableLetters : Table → List Letter
+tableLetters a = take (a .count) (a .letters)
 
 abbrev pub namesIn : Table → List Name
-namesIn a = namesOf (lettersOf a)
+namesIn a = namesOf (tableLetters a)
 
-abbrev pub nodesOf : Table → List Node
-nodesOf a = take (a .size) (a .nodes)
+abbrev pub tableNodes : Table → List Node
+tableNodes a = take (a .size) (a .nodes)
 
 -- a letter got the number i, and nothing but the letters was changed
 pub record Numbered (a b : Table) (x : Letter) (i : ℕ) : Type 0 where
   pub is : i ≡ place (namesIn b) (x .name)
   pub room : place (namesIn a) (x .name) < 8
-  pub keeps : lettersOf b ≡ noted (lettersOf a) x
+  pub keeps : tableLetters b ≡ noted (tableLetters a) x
   pub few : b .count ≤ 8
   pub nodes : b .nodes ≡ a .nodes
   pub size : b .size ≡ a .size

@@ -3,16 +3,14 @@ use mathlib.Core.Path.{_≡_}
 use mathlib.Core.List.{List, [], _∷_, _++_}
 use Prim.Native.Nat.{ℕ, _+_, _-_, _≤_, _<_}
 use lib.ListN.{length}
-use Rattle.rules.specs.Scan.{Reach, Halts, want, have, step, done}
-use Rattle.rules.specs.Grammar.{Reads, Shallow}
-use Rattle.rules.specs.Names.{namesIn, lettersOf, nodesOf, gather, numbered}
-use Rattle.rules.specs.Signs.{lex, sign}
+use Rattle.rules.specs.Scan.{Reach, Halts, want, have}
+use Rattle.rules.specs.Grammar.{Reads, Shallow, Ended}
+use Rattle.rules.specs.Names.{namesIn, tableLetters, tableNodes, gather, numbered}
 use Rattle.rules.specs.Tree.{Tree, size, flatten}
 use Rattle.rules.specs.declared.fault.Fault.{Fault}
 use Rattle.rules.specs.declared.node.Node.{Node}
 use Rattle.rules.specs.declared.rule.Letter.{Letter}
 use Rattle.rules.specs.declared.rule.Table.{Table}
-use Rattle.rules.specs.declared.sign.Sign.the-variants.{End}
 use Rattle.rules.specs.declared.sign.Why.{Why}
 use Rattle.rules.specs.declared.sign.Why.the-variants.{NoSign, LongName, Misplaced, DeepNesting, ManyNodes, ManyLetters}
 use Rattle.rules.specs.declared.sign.Stop.{Stop}
@@ -21,7 +19,7 @@ use Rattle.rules.specs.declared.sign.Stop.{Stop}
 pub record Put (a b : Table) (v : Node) (x : ℕ) : Type 0 where
   pub number : x ≡ a .size
   pub size : b .size ≡ a .size + 1
-  pub nodes : nodesOf b ≡ nodesOf a ++ v ∷ []
+  pub nodes : tableNodes b ≡ tableNodes a ++ v ∷ []
   pub letters : b .letters ≡ a .letters
   pub count : b .count ≡ a .count
 
@@ -32,8 +30,8 @@ pub record Parsed (n k : ℕ) (s r : List ℕ) (d p : ℕ) (a b : Table) (x : �
   pub scans : Reach s (want d (a .size + p) (namesIn a)) r (have d (b .size + p) (namesIn b))
   pub long : b .size ≡ a .size + size tree
   pub fits : b .size + p ≤ 64
-  pub wrote : nodesOf b ≡ nodesOf a ++ flatten (numbered (lettersOf b) tree) (a .size)
-  pub notes : lettersOf b ≡ gather (lettersOf a) tree
+  pub wrote : tableNodes b ≡ tableNodes a ++ flatten (numbered (tableLetters b) tree) (a .size)
+  pub notes : tableLetters b ≡ gather (tableLetters a) tree
   pub few : b .count ≤ 8
   pub root : x + 1 ≡ b .size
   pub shorter : length r < length s
@@ -44,20 +42,19 @@ pub record Whole (s : List ℕ) (b : Table) : Type 0 where
   pub rest : List ℕ
   pub reads : Reads (length s) 1 s rest tree
   pub scans : Reach s (want 0 0 []) rest (have 0 (b .size) (namesIn b))
-  pub ends : step rest (have 0 (b .size) (namesIn b)) ≡ done
+  pub ends : Ended rest
   pub size-is : b .size ≡ size tree
   pub fits : b .size ≤ 64
   pub few : b .count ≤ 8
-  pub nodes-are : nodesOf b ≡ flatten (numbered (lettersOf b) tree) 0
-  pub letters-are : lettersOf b ≡ gather [] tree
+  pub nodes-are : tableNodes b ≡ flatten (numbered (tableLetters b) tree) 0
+  pub letters-are : tableLetters b ≡ gather [] tree
 
 -- A TEXT WITHIN THE LIMITS: the grammar derives it, with few bytes, parentheses, nodes and letters
 pub record Within (s : List ℕ) : Type 0 where
   pub tree : Tree Letter
   pub rest : List ℕ
-  pub last : List ℕ
   pub reads : Reads (length s) 1 s rest tree
-  pub ends : lex rest ≡ sign End last
+  pub ends : Ended rest
   pub short : length s ≤ 512
   pub shallow : Shallow 0 reads
   pub small : size tree ≤ 64

@@ -1,7 +1,7 @@
 -- A rule's nodes, letters and tree. Assumes nothing.
 use mathlib.Core.List.{List}
 use Prim.Native.Nat.{ℕ, _-_}
-use lib.ListN.{take}
+use Rattle.rules.specs.Names.{tableNodes, tableLetters}
 use Rattle.rules.specs.Tree.{Tree, decode, nodeAt}
 use Rattle.rules.specs.declared.node.Node.{Node}
 use Rattle.rules.specs.declared.rule.Letter.{Letter}
@@ -14,10 +14,10 @@ abbrev pub letterCount : Rule → ℕ
 letterCount r = r .table .count
 
 abbrev pub nodesOf : Rule → List Node
-nodesOf r = take (nodeCount r) (r .table .nodes)
+nodesOf r = tableNodes (r .table)
 
 abbrev pub lettersOf : Rule → List Letter
-lettersOf r = take (letterCount r) (r .table .letters)
+lettersOf r = tableLetters (r .table)
 
 -- the last node is the whole rule
 abbrev pub treeOfRule : Rule → Tree ℕ

@@ -20,7 +20,7 @@ fn class_code(b: u8) -> u8
     CLASS[b as usize]
 }
 
-pub fn class_of(b: u8) -> Class
+pub(crate) fn class_of(b: u8) -> Class
     ensures { λ r. ⌜ r ≡ class b ⌝ }
 {
     match class_code(b) {

@@ -42,7 +42,7 @@ fn letter_at(total: usize, s: &[u8], name: Name) -> Letter
 }
 
 // The number of the name that stands at `s`, which is noted with its place if it is new.
-pub fn number(total: usize, s: &[u8], name: Name, table: &mut Table) -> Result<u8, Stop>
+pub(crate) fn number(total: usize, s: &[u8], name: Name, table: &mut Table) -> Result<u8, Stop>
     requires { ⌜ now table .count ≤ 8 ⌝ }
     ensures { λ r. ⌜ Cases r (λ i. Numbered (now (table .entry)) (now (table .exit)) (letterAt total (now (s .entry)) name) i) (λ f. (8 ≤ place (namesIn (now (table .entry))) name) × (f ≡ stopAt ManyLetters (now (s .entry)))) ⌝ }
 {

@@ -14,9 +14,9 @@ use crate::sign::Stop;
 use crate::sign::Why;
 
 // The most bytes of a name.
-pub const NAME_BYTES: usize = 12;
+pub(crate) const NAME_BYTES: usize = 12;
 
-pub fn skip(s: &[u8]) -> &[u8]
+pub(crate) fn skip(s: &[u8]) -> &[u8]
     ensures { λ r. ⌜ now r ≡ skipped (now (s .entry)) ⌝ }
 {
     let mut s = s;
@@ -30,7 +30,7 @@ pub fn skip(s: &[u8]) -> &[u8]
 }
 
 // How many bytes at the front belong to one word.
-pub fn run_len(s: &[u8]) -> usize
+pub(crate) fn run_len(s: &[u8]) -> usize
     ensures { λ r. ⌜ r ≡ run (now (s .entry)) ⌝ }
 {
     let mut n = 0;
@@ -44,7 +44,7 @@ pub fn run_len(s: &[u8]) -> usize
 }
 
 // Why a text is refused where `s` is left of it: the place is the next byte that is not blank.
-pub fn stop_at(why: Why, s: &[u8]) -> Stop
+pub(crate) fn stop_at(why: Why, s: &[u8]) -> Stop
     ensures { λ r. ⌜ r ≡ stopAt why (now (s .entry)) ⌝ }
 {
     Stop {
@@ -76,7 +76,7 @@ fn mark(s: &[u8]) -> Result<(Sign, &[u8]), Stop>
 }
 
 // The sign that a reserved word is.
-pub fn reserved(w: &[u8]) -> Option<Sign>
+pub(crate) fn reserved(w: &[u8]) -> Option<Sign>
     ensures { λ r. ⌜ r ≡ reservedOf (now (w .entry)) ⌝ }
 {
     match w {
@@ -89,7 +89,7 @@ pub fn reserved(w: &[u8]) -> Option<Sign>
 }
 
 // A name of `n` bytes.
-pub fn copied(s: &[u8], n: usize) -> Name
+pub(crate) fn copied(s: &[u8], n: usize) -> Name
     requires short { ⌜ n ≤ 12 ⌝ }
     requires within { ⌜ n ≤ length (now s) ⌝ }
     ensures { λ r. ⌜ r ≡ nameOf n (now (s .entry)) ⌝ }
@@ -125,7 +125,7 @@ fn word(s: &[u8]) -> Result<(Sign, &[u8]), Stop>
 }
 
 // The next sign, and what is behind it.
-pub fn next_sign(s: &[u8]) -> Result<(Sign, &[u8]), Stop>
+pub(crate) fn next_sign(s: &[u8]) -> Result<(Sign, &[u8]), Stop>
     ensures { λ r. ⌜ Cases r (λ p. lex (now (s .entry)) ≡ sign (p .0) (now (p .1))) (λ f. lex (now (s .entry)) ≡ bad f) ⌝ }
 {
     let s = skip(s);

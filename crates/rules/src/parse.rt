@@ -3,8 +3,8 @@ ghost use mathlib.Core.Path.{_≡_};
 ghost use mathlib.Core.List.{[]};
 ghost use Prim.Native.Nat.{suc, _+_, _<_, _≤_};
 ghost use Rattle.rules.specs.Signs.{stopAt, lex, sign};
-ghost use Rattle.rules.specs.Scan.{Halts, NextStep, want, halt, done};
-ghost use Rattle.rules.specs.Grammar.{rankOf, rightward, rankAt};
+ghost use Rattle.rules.specs.Scan.{Halts, NextStep, want, halt};
+ghost use Rattle.rules.specs.Grammar.{rankOf, rightward, rankAt, Ended};
 ghost use Rattle.rules.specs.Names.{namesIn};
 ghost use Rattle.rules.specs.Reading.{Put, Parsed, Whole};
 ghost use Rattle.rules.specs.declared.sign.Why.the-variants.{ManyNodes};
@@ -91,7 +91,7 @@ fn closed(s: &[u8], depth: usize, count: usize) -> Result<&[u8], Stop>
 // The end of the text, where no sign that stands between operands comes next.
 fn ended(s: &[u8], count: usize) -> Result<(), Stop>
     requires { ⌜ rankAt (now s) < 1 ⌝ }
-    ensures { λ r. ⌜ Cases r (λ _. NextStep (now (s .entry)) 0 count done) (λ f. NextStep (now (s .entry)) 0 count (halt f)) ⌝ }
+    ensures { λ r. ⌜ Cases r (λ _. Ended (now (s .entry))) (λ f. NextStep (now (s .entry)) 0 count (halt f)) ⌝ }
 {
     let (m, _) = next_sign(s)?;
     match m {
@@ -199,7 +199,7 @@ fn level<'a>(
 }
 
 // The table of the rule that a text says, or where its reading stops.
-pub fn parse(text: &[u8]) -> Result<Table, Stop>
+pub(crate) fn parse(text: &[u8]) -> Result<Table, Stop>
     ensures { λ r. ⌜ Cases r (λ b. Whole (now (text .entry)) b) (λ f. Halts (now (text .entry)) (want 0 0 []) f) ⌝ }
 {
     // its room is taken from the first node on
