@@ -4,3 +4,4 @@ pub mod Scale
 pub mod Step
 pub mod YesNo
 pub mod Valuation
+pub mod ThreeWay

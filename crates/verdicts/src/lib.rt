@@ -2,6 +2,7 @@
 mod backward;
 mod scale;
 mod step;
+mod three_way;
 mod valuation;
 
 pub use backward::evaluate;
@@ -10,4 +11,8 @@ pub use scale::YesNo;
 pub use scale::YesNoDebug;
 pub use scale::YesNoPartialEq;
 pub use scale::YesNoScale;
+pub use three_way::ThreeWay;
+pub use three_way::ThreeWayDebug;
+pub use three_way::ThreeWayPartialEq;
+pub use three_way::ThreeWayScale;
 pub use valuation::valuate;
