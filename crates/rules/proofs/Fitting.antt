@@ -10,11 +10,12 @@ use lib.ListN.{length}
 use Rattle.std.proofs.shelf.Lists.{getD-append-left, getD-append-right, getD-take, length-append, length-push, length-take-le}
 use Rattle.std.proofs.shelf.Tests.{cases-lt, lt-ltb, and-from}
 use Rattle.rules.specs.Names.{tableLetters, numbered}
-use Rattle.rules.specs.Reading.{Whole}
+use Rattle.rules.specs.Descent.{Built}
 use Rattle.rules.specs.Tree.{Tree, leaf, truth, before, between, size, flatten, nodeAt, fits}
 use Rattle.rules.specs.declared.node.Node.{Node}
 use Rattle.rules.specs.declared.rule.Letter.{Letter}
 use Rattle.rules.specs.declared.rule.Table.{Table}
+use Rattle.rules.proofs.Flat.{flat-length}
 use Rattle.rules.proofs.Numbering.{Known, gather-known, size-numbered}
 
 pub size-some : {L : Type 0} (t : Tree L) → 1 ≤ size t
@@ -22,17 +23,6 @@ size-some (leaf l) = omega arith
 size-some (truth v) = omega arith
 size-some (before u t) = omega arith
 size-some (between o t u) = omega arith
-
-flatten-long : (t : Tree ℕ) (b : ℕ) → length (flatten t b) ≡ size t
-flatten-long (leaf l) b = refl
-flatten-long (truth v) b = refl
-flatten-long (before u t) b =
-    let h = flatten-long t b in
-    length-push (flatten t b) _ ∙ omega arith
-flatten-long (between o t u) b =
-    let h = flatten-long t b in
-    let k = flatten-long u (b + size t) in
-    length-append (flatten t b) _ ∙ omega (arith, length-push (flatten u (b + size t)) (Node.Between o (b + size t - 1) (b + size t + size u - 1)))
 
 -- the nodes, of which the first is node b, fit a rule over k letters
 abbrev Fitted : ℕ → ℕ → List Node → Type 0
@@ -62,12 +52,12 @@ fitted-tree : (k : ℕ) (t : Tree ℕ) (b : ℕ) → Below k t → Fitted k b (f
 fitted-tree k (leaf l) b h = fitted-one k b (Node.Letter l) (lt-ltb l k h)
 fitted-tree k (truth v) b h = fitted-one k b (Node.Truth v) refl
 fitted-tree k (before u t) b h =
-    let n = flatten-long t b in
+    let n = flat-length t b in
     let p = size-some t in
     fitted-join k b (flatten t b) _ (fitted-tree k t b h) (fitted-one k _ (Node.Before u (b + size t - 1)) (lt-ltb (b + size t - 1) (b + length (flatten t b)) (omega arith)))
 fitted-tree k (between o t u) b h =
-    let n = flatten-long t b in
-    let m = flatten-long u (b + size t) in
+    let n = flat-length t b in
+    let m = flat-length u (b + size t) in
     let p = size-some t in
     let q = size-some u in
     let at : b + size t ≡ b + length (flatten t b) = omega arith in
@@ -82,13 +72,13 @@ below-known l (truth v) k = tt
 below-known l (before u t) k = below-known l t k
 below-known l (between o t u) k = (below-known l t (k .0), below-known l u (k .1))
 
-pub whole-fits : {s : List ℕ} (b : Table) → Whole s b → b .count ≤ length (b .letters) → (i : ℕ) → i < b .size → fits (b .count) i (nodeAt (b .nodes) i) ≡ true
-whole-fits b w h i l =
+pub built-fits : {s : List ℕ} (b : Table) → Built s b → b .count ≤ length (b .letters) → (i : ℕ) → i < b .size → fits (b .count) i (nodeAt (b .nodes) i) ≡ true
+built-fits b w h i l =
     let L = tableLetters b in
     let T = numbered L (w .tree) in
     let known : Known L (w .tree) = subst (λ z. Known z (w .tree)) (sym (w .letters-are)) (gather-known [] (w .tree)) in
     let below : Below (b .count) T = subst (λ n. Below n T) (length-take-le (b .count) (b .letters) h) (below-known L (w .tree) known) in
-    let long = flatten-long T 0 in
+    let long = flat-length T 0 in
     let same = size-numbered L (w .tree) in
     let inside : i < length (flatten T 0) = omega (arith, w .size-is) in
     ap (fits (b .count) i) (sym (getD-take (b .size) (b .nodes) i (Node.Letter 0) l) ∙ ap (λ ns. nodeAt ns i) (w .nodes-are)) ∙ ap (λ j. fits (b .count) j (nodeAt (flatten T 0) i)) (sym (zero-add i)) ∙ fitted-tree (b .count) T 0 below i inside

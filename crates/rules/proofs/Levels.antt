@@ -10,9 +10,10 @@ use lib.Dec.{eqb}
 use lib.ListN.{length, take}
 use Rattle.rules.specs.Signs.{sign, lex}
 use Rattle.rules.specs.Names.{place, added, namesOf, namesIn, tableLetters, tableNodes, letterAt, gather, numbered, Numbered}
-use Rattle.rules.specs.Scan.{want, have, step, halt, here, onward, Halts, NextStep}
-use Rattle.rules.specs.Grammar.{rankOf, rightward, signRank, lexRank, rankAt, Reads, a-name, a-truth, a-before, a-group, up, to-left, to-right}
-use Rattle.rules.specs.Reading.{Put, Parsed}
+use Rattle.rules.specs.Descent.{Put, Parsed}
+use Rattle.rules.specs.Grammar.{rankOf, rightward}
+use Rattle.rules.specs.Rest.{step, halt, here, onward, Halts, NextStep, signRank, lexRank, rankAt, Reads, a-name, a-truth, a-before, a-group, up, to-left, to-right}
+use Rattle.rules.specs.Scan.{want, have}
 use Rattle.rules.specs.Tree.{leaf, truth, before, between, size, flatten}
 use Rattle.rules.specs.declared.name.Name.{Name}
 use Rattle.rules.specs.declared.node.Unary.{Unary}

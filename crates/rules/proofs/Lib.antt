@@ -1,13 +1,15 @@
 pub mod Accepted
 pub mod ClassTable
+pub mod Ends
+pub mod First
 pub mod Fitting
+pub mod Flat
 pub mod Fronts
 pub mod Levels
 pub mod NameBytes
 pub mod Numbering
 pub mod OneTree
 pub mod Outcome
-pub mod Places
 pub mod SameName
+pub mod Spans
 pub mod Steps
-pub mod First

@@ -1,69 +1,72 @@
--- A text has one outcome: it is accepted, or it has one first fault. Assumes nothing.
-use mathlib.Core.Path.{_≡_, refl, sym, ap, subst, subst₂, _∙_}
+-- The outcome of reading a text: its first fault, or the whole rule. Assumes nothing.
+use mathlib.Core.Path.{_≡_, refl, sym, ap, subst, _∙_}
 use mathlib.Core.List.{List, []}
-use Prim.Native.Nat.{ℕ, _≤_, _<_}
+use Prim.Native.Nat.{ℕ, suc, _-_, _≤_, _<_}
 use native.Mathlib.Omega.{arith}
+use lib.Dec.{ltb}
 use lib.ListN.{length}
-use Rattle.rules.specs.Scan.{State, want, have, turn, step, Out, go, halt, done, Reach, here, onward, Halts, Accepts}
-use Rattle.rules.specs.Names.{namesIn}
-use Rattle.rules.specs.Reading.{Whole, Within, Refused, too-long, first, faultOf}
+use Rattle.std.specs.declared.option.Option.the-variants.{Some, None}
+use Rattle.std.specs.declared.result.Result.{Result}
+use Rattle.std.specs.declared.result.Result.the-variants.{Ok}
+use Rattle.std.proofs.shelf.Lists.{length-take-le}
+use Rattle.std.proofs.shelf.Tests.{cond-true, cond-false, lt-ltb, le-ltb}
+use Rattle.rules.specs.Descent.{Built}
+use Rattle.rules.specs.Faults.{faultOf}
+use Rattle.rules.specs.First.{answer, Left}
+use Rattle.rules.specs.Names.{namesIn, tableNodes, tableLetters, numbered}
+use Rattle.rules.specs.Reading.{Says, Whole, Within}
+use Rattle.rules.specs.Rest.{turn, Halts}
+use Rattle.rules.specs.Scan.{want, have, scan, firstFault}
+use Rattle.rules.specs.Text.{_then_, signs, signsFrom}
+use Rattle.rules.specs.Tree.{Tree, decode, nodeAt, flatten}
 use Rattle.rules.specs.declared.fault.Fault.{Fault}
+use Rattle.rules.specs.declared.rule.Letter.{Letter}
+use Rattle.rules.specs.declared.rule.Rule.{Rule}
 use Rattle.rules.specs.declared.rule.Table.{Table}
 use Rattle.rules.specs.declared.sign.Stop.{Stop}
 use Rattle.rules.proofs.Accepted.{accepted}
+use Rattle.rules.proofs.Flat.{flat-decode}
+use Rattle.rules.proofs.Spans.{halts-scan, done-scan, part, span-end}
 
-abbrev Stopped : Out → Type 0
-Stopped (go r σ) = ⊥
-Stopped (halt f) = Unit {0}
-Stopped done = Unit {0}
+-- THE FIRST FAULT
 
-at-start : {s : List ℕ} {σ : State} (r : List ℕ) (ρ : State) → Stopped (step s σ) → Reach s σ r ρ → step s σ ≡ step r ρ
-at-start r ρ a here = refl
-at-start r ρ a (onward e p) = absurd (subst Stopped e a)
+pub too-long : (s : List ℕ) → 512 < length s → firstFault s ≡ Some Fault.LongText
+unfolding firstFault
+too-long s h = cond-true (ltb 512 (length s)) _ _ (lt-ltb 512 (length s) h)
 
-after : {s m : List ℕ} {σ τ : State} (r : List ℕ) (ρ : State) → step s σ ≡ go m τ → Reach s σ r ρ → Stopped (step r ρ) → Reach m τ r ρ
-after r ρ e here b = absurd (subst Stopped e b)
-after {s} {m} {σ} {τ} r ρ e (onward {m = n} {τ = υ} f p) b =
-    let same : n ≡ m = cc in
-    let so : υ ≡ τ = cc in
-    subst₂ (λ x y. Reach x y r ρ) same so p
+pub stopped : (s : List ℕ) (f : Stop) → length s ≤ 512 → Halts s (want 0 0 []) f → firstFault s ≡ Some (faultOf (length s) f)
+unfolding firstFault signs
+stopped s f h x = cond-false (ltb 512 (length s)) _ _ (le-ltb 512 (length s) h) ∙ halts-scan (length s) (suc (length s)) x (omega arith)
 
-one-end : {s m : List ℕ} {σ τ : State} (r : List ℕ) (ρ : State) → Reach s σ m τ → Reach s σ r ρ → Stopped (step m τ) → Stopped (step r ρ) → step m τ ≡ step r ρ
-one-end r ρ here q a b = at-start r ρ a q
-one-end r ρ (onward e p) q a b = one-end r ρ p (after r ρ e q b) a b
-
-halted : {o : Out} {f : Stop} → o ≡ halt f → Stopped o
-halted e = subst Stopped (sym e) tt
-
-ended : {o : Out} → o ≡ done → Stopped o
-ended e = subst Stopped (sym e) tt
-
-same-fault : {f g : Stop} → halt f ≡ halt g → f ≡ g
-same-fault e = cc
-
-one-fault : {s : List ℕ} {σ : State} {f g : Stop} → Halts s σ f → Halts s σ g → f ≡ g
-one-fault h k = same-fault (sym (h .stops) ∙ one-end (k .at) (k .in-state) (h .leads) (k .leads) (halted (h .stops)) (halted (k .stops)) ∙ k .stops)
-
-not-both : {s : List ℕ} {σ : State} {f : Stop} → Halts s σ f → Accepts s σ → ⊥
-not-both {f = f} h k =
-    let e : halt f ≡ done = sym (h .stops) ∙ one-end (k .at) (k .in-state) (h .leads) (k .leads) (halted (h .stops)) (ended (k .ends)) ∙ k .ends in
-    let z : _≡_ {A = ℕ} 0 1 = cc in
-    omega arith
-
-pub only-long : {s : List ℕ} {f : Fault} → 512 < length s → Refused s f → Fault.LongText ≡ f
-only-long h (too-long k) = refl
-only-long h (first k i x) = absurd (omega arith)
-
-pub only-first : {s : List ℕ} {x : Stop} {f : Fault} → length s ≤ 512 → Halts s (want 0 0 []) x → Refused s f → faultOf (length s) x ≡ f
-only-first h x (too-long k) = absurd (omega arith)
-only-first {s} h x (first k i y) = ap (faultOf (length s)) (one-fault x y)
-
-pub never-whole : {s : List ℕ} {b : Table} {f : Fault} → length s ≤ 512 → Whole s b → Refused s f → ⊥
-never-whole h w (too-long k) = omega arith
-never-whole {b = b} h w (first k i x) =
+pub no-fault : (s : List ℕ) (b : Table) → length s ≤ 512 → Built s b → firstFault s ≡ None
+unfolding firstFault signs
+no-fault s b h w =
     let σ = have 0 (b .size) (namesIn b) in
-    not-both x (record { at = w .rest; in-state = σ; leads = w .scans; ends = ap (λ l. turn l (w .rest) σ) (w .ends .1) })
+    cond-false (ltb 512 (length s)) _ _ (le-ltb 512 (length s) h) ∙ done-scan (length s) (suc (length s)) (w .scans) (ap (λ l. turn l (w .rest) σ) (w .ends .1)) (omega arith)
 
-pub never-within : {s : List ℕ} {f : Fault} → Refused s f → Within s → ⊥
-never-within (too-long k) w = let h = w .short in omega arith
-never-within (first k i x) w = not-both x (accepted w)
+-- THE RULE
+
+-- the text says the tree that was built
+says : {s : List ℕ} {b : Table} (w : Built s b) → Says s (w .tree)
+unfolding signs
+says {s} w =
+    let p = part (w .reads) in
+    let q = p .spans .all (suc (length s)) (omega arith) in
+    record { row = p .row; spells = q .2 ∙ ap (λ x. p .row then x) (span-end (length s) (q .0) (w .rest) (w .ends) (q .1)); derives = p .derives }
+
+-- its table decodes to the tree over the letters' numbers
+pub built-tree : {s : List ℕ} (b : Table) (w : Built s b) → b .size ≤ length (b .nodes) → decode (nodeAt (tableNodes b)) (b .size - 1) ≡ numbered (tableLetters b) (w .tree)
+built-tree b w room = flat-decode (numbered (tableLetters b) (w .tree)) (tableNodes b) (b .size) (length-take-le (b .size) (b .nodes) room) (sym (w .nodes-are))
+
+-- so it is the flattening of what it decodes to
+pub built-flat : {s : List ℕ} (b : Table) → Built s b → b .size ≤ length (b .nodes) → flatten (decode (nodeAt (tableNodes b)) (b .size - 1)) 0 ≡ tableNodes b
+built-flat b w room = ap (λ t. flatten t 0) (built-tree b w room) ∙ sym (w .nodes-are)
+
+pub built-whole : {s : List ℕ} (rule : Rule) → Built s (rule .table) → rule .table .size ≤ length (rule .table .nodes) → Whole s rule
+built-whole rule w room = record { tree = w .tree; says = says w; letters = w .letters-are; nodes = w .nodes-are; root = built-tree (rule .table) w room }
+
+-- THE CLAUSES
+
+-- every text within the limits is read
+pub reads-all : {s : List ℕ} {r : Result (Unit {0}) Fault} → r ≡ answer (firstFault s) tt → Within s → r ≡ Ok tt
+reads-all {s} {r} e w = e ∙ ap (λ o. answer o tt) (accepted w)

@@ -8,7 +8,8 @@ use lib.Dec.{ltb}
 use Rattle.std.proofs.shelf.Tests.{cond-true, cond-false, lt-ltb, le-ltb}
 use Rattle.rules.specs.Signs.{sign, bad, lex, stopAt}
 use Rattle.rules.specs.Names.{place, added}
-use Rattle.rules.specs.Scan.{State, want, have, turn, step, go, halt, Reach, here, onward, Halts}
+use Rattle.rules.specs.Rest.{turn, step, go, halt, Reach, here, onward, Halts}
+use Rattle.rules.specs.Scan.{State, want, have}
 use Rattle.rules.specs.declared.name.Name.{Name}
 use Rattle.rules.specs.declared.node.Unary.{Unary}
 use Rattle.rules.specs.declared.node.Binary.{Binary}

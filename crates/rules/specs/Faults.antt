@@ -1,9 +1,11 @@
--- Each fault's number, layer and place. Assumes nothing.
-use Prim.Native.Nat.{ℕ}
+-- Each fault's number, layer and place, and the fault that a stop is. Assumes nothing.
+use Prim.Native.Nat.{ℕ, _-_}
 use Rattle.rules.specs.declared.fault.Fault.{Fault}
 use Rattle.rules.specs.declared.fault.Fault.the-variants.{LongText, NoSign, Misplaced, LongName, DeepNesting, ManyNodes, ManyLetters, ManyNames, NotAName, RepeatedName, AbsentName, ManyEvents, HighCode, InDoubt, ShortBuffer, OutOfForm}
 use Rattle.rules.specs.declared.fault.Layer.{Layer}
 use Rattle.rules.specs.declared.fault.Layer.the-variants.{Signs, Grammar, Names, Traces, Files}
+use Rattle.rules.specs.declared.sign.Why.{Why}
+use Rattle.rules.specs.declared.sign.Stop.{Stop}
 
 abbrev pub numberOf : Fault → ℕ
 numberOf LongText = 1
@@ -66,3 +68,15 @@ placeOf (HighCode at) = at
 placeOf (InDoubt at) = at
 placeOf (ShortBuffer at) = at
 placeOf OutOfForm = 0
+
+abbrev pub faultAt : Why → ℕ → Fault
+faultAt Why.NoSign at = NoSign at
+faultAt Why.LongName at = LongName at
+faultAt Why.Misplaced at = Misplaced at
+faultAt Why.DeepNesting at = DeepNesting at
+faultAt Why.ManyNodes at = ManyNodes at
+faultAt Why.ManyLetters at = ManyLetters at
+
+-- the fault of a text of n bytes whose reading stops at f
+abbrev pub faultOf : ℕ → Stop → Fault
+faultOf n f = faultAt (f .why) (n - f .left)

@@ -2,8 +2,11 @@ pub mod Faults
 pub mod Names
 pub mod Tree
 pub mod Signs
+pub mod Text
 pub mod Scan
 pub mod Grammar
+pub mod Rest
+pub mod Descent
+pub mod Rules
 pub mod Reading
 pub mod First
-pub mod Rules

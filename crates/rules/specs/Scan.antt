@@ -1,16 +1,21 @@
--- A text read sign by sign, from left to right, with a small state: where it goes wrong first. Assumes nothing.
-use mathlib.Core.Path.{_≡_}
+-- A text's signs gone through from left to right with a small state: the first fault. Assumes nothing.
 use mathlib.Core.Bool.{Bool, true, false, cond}
-use mathlib.Core.List.{List}
+use mathlib.Core.List.{List, []}
 use Prim.Native.Nat.{ℕ, _+_, _-_}
 use lib.Dec.{ltb}
-use Rattle.rules.specs.Signs.{Lexed, sign, bad, lex, stopAt}
+use lib.ListN.{length}
+use Rattle.std.specs.declared.option.Option.{Option}
+use Rattle.std.specs.declared.option.Option.the-variants.{Some, None}
+use Rattle.rules.specs.Faults.{faultAt}
 use Rattle.rules.specs.Names.{place, added}
+use Rattle.rules.specs.Text.{Placed, Signs, next, the-end, no-sign, signs}
+use Rattle.rules.specs.declared.fault.Fault.{Fault}
+use Rattle.rules.specs.declared.fault.Fault.the-variants.{LongText}
 use Rattle.rules.specs.declared.name.Name.{Name}
 use Rattle.rules.specs.declared.sign.Sign.{Sign}
 use Rattle.rules.specs.declared.sign.Sign.the-variants.{Before, Between, Truth, Open, Close, End}
+use Rattle.rules.specs.declared.sign.Why.{Why}
 use Rattle.rules.specs.declared.sign.Why.the-variants.{Misplaced, DeepNesting, ManyNodes, ManyLetters}
-use Rattle.rules.specs.declared.sign.Stop.{Stop}
 
 -- whether an operand is expected, how many parentheses are open, how many nodes the signs so far make, and their names
 pub record State : Type 0 where
@@ -25,62 +30,36 @@ want d n l = record { operand = true; depth = d; made = n; known = l }
 abbrev pub have : ℕ → ℕ → List Name → State
 have d n l = record { operand = false; depth = d; made = n; known = l }
 
-pub data Out : Type 0 where
-  go : List ℕ → State → Out
-  halt : Stop → Out
-  done : Out
+-- where an operand is expected, a sign either goes on in a new state or is refused
+abbrev pub wants : {A : Type 0} → Sign → ℕ → ℕ → List Name → (State → A) → (Why → A) → A
+wants (Before u) d n l on stop = cond (ltb n 64) (on (want d (n + 1) l)) (stop ManyNodes)
+wants (Between b) d n l on stop = stop Misplaced
+wants (Truth v) d n l on stop = cond (ltb n 64) (on (have d (n + 1) l)) (stop ManyNodes)
+wants (Sign.Name w) d n l on stop = cond (ltb n 64) (cond (ltb (place l w) 8) (on (have d (n + 1) (added l w))) (stop ManyLetters)) (stop ManyNodes)
+wants Open d n l on stop = cond (ltb d 16) (on (want (d + 1) n l)) (stop DeepNesting)
+wants Close d n l on stop = stop Misplaced
+wants End d n l on stop = stop Misplaced
 
--- a sign that makes a node: the 65th is refused
-abbrev pub node : List ℕ → ℕ → Out → Out
-node s n next = cond (ltb n 64) next (halt (stopAt ManyNodes s))
+-- where an operand has been read; the end with no parenthesis open is the last sign
+abbrev pub haves : {A : Type 0} → Sign → ℕ → ℕ → List Name → (State → A) → (Why → A) → A → A
+haves (Before u) d n l on stop last = stop Misplaced
+haves (Between b) d n l on stop last = cond (ltb n 64) (on (want d (n + 1) l)) (stop ManyNodes)
+haves (Truth v) d n l on stop last = stop Misplaced
+haves (Sign.Name w) d n l on stop last = stop Misplaced
+haves Open d n l on stop last = stop Misplaced
+haves Close d n l on stop last = cond (ltb 0 d) (on (have (d - 1) n l)) (stop Misplaced)
+haves End d n l on stop last = cond (ltb 0 d) (stop Misplaced) last
 
--- where an operand is expected: s begins with the sign, r is behind it
-abbrev pub wants : Sign → List ℕ → List ℕ → ℕ → ℕ → List Name → Out
-wants (Before u) s r d n l = node s n (go r (want d (n + 1) l))
-wants (Between b) s r d n l = halt (stopAt Misplaced s)
-wants (Truth v) s r d n l = node s n (go r (have d (n + 1) l))
-wants (Sign.Name w) s r d n l = node s n (cond (ltb (place l w) 8) (go r (have d (n + 1) (added l w))) (halt (stopAt ManyLetters s)))
-wants Open s r d n l = cond (ltb d 16) (go r (want (d + 1) n l)) (halt (stopAt DeepNesting s))
-wants Close s r d n l = halt (stopAt Misplaced s)
-wants End s r d n l = halt (stopAt Misplaced s)
+-- ONE SIGN in a state
+abbrev pub react : {A : Type 0} → Sign → State → (State → A) → (Why → A) → A → A
+react m σ on stop last = cond (σ .operand) (wants m (σ .depth) (σ .made) (σ .known) on stop) (haves m (σ .depth) (σ .made) (σ .known) on stop last)
 
--- where an operand has been read
-abbrev pub haves : Sign → List ℕ → List ℕ → ℕ → ℕ → List Name → Out
-haves (Before u) s r d n l = halt (stopAt Misplaced s)
-haves (Between b) s r d n l = node s n (go r (want d (n + 1) l))
-haves (Truth v) s r d n l = halt (stopAt Misplaced s)
-haves (Sign.Name w) s r d n l = halt (stopAt Misplaced s)
-haves Open s r d n l = halt (stopAt Misplaced s)
-haves Close s r d n l = cond (ltb 0 d) (go r (have (d - 1) n l)) (halt (stopAt Misplaced s))
-haves End s r d n l = cond (ltb 0 d) (halt (stopAt Misplaced s)) done
+-- the first fault of some signs, from a state
+abbrev pub scan : Signs → State → Option Fault
+scan (next p x) σ = react (p .sign) σ (λ τ. scan x τ) (λ w. Some (faultAt w (p .at))) None
+scan (the-end n) σ = react End σ (λ τ. None) (λ w. Some (faultAt w n)) None
+scan (no-sign f) σ = Some f
 
-abbrev pub turn : Lexed → List ℕ → State → Out
-turn (sign m r) s σ = cond (σ .operand) (wants m s r (σ .depth) (σ .made) (σ .known)) (haves m s r (σ .depth) (σ .made) (σ .known))
-turn (bad f) s σ = halt f
-
--- ONE STEP of the scan
-abbrev pub step : List ℕ → State → Out
-step s σ = turn (lex s) s σ
-
--- some steps lead from one place and state to another
-pub data Reach : List ℕ → State → List ℕ → State → Type 0 where
-  here : {s : List ℕ} {σ : State} → Reach s σ s σ
-  onward : {s m r : List ℕ} {σ τ ρ : State} → step s σ ≡ go m τ → Reach m τ r ρ → Reach s σ r ρ
-
--- THE FIRST FAULT of the text that is left, from a state
-pub record Halts (s : List ℕ) (σ : State) (f : Stop) : Type 0 where
-  pub at : List ℕ
-  pub in-state : State
-  pub leads : Reach s σ at in-state
-  pub stops : step at in-state ≡ halt f
-
--- no fault up to the end
-pub record Accepts (s : List ℕ) (σ : State) : Type 0 where
-  pub at : List ℕ
-  pub in-state : State
-  pub leads : Reach s σ at in-state
-  pub ends : step at in-state ≡ done
-
--- behind an operand, inside d parentheses and with n nodes made: the next step, whatever names are known
-abbrev pub NextStep : List ℕ → ℕ → ℕ → Out → Type 0
-NextStep s d n o = (l : List Name) → step s (have d n l) ≡ o
+-- THE FIRST FAULT OF A TEXT: its length, or else what the scan of its signs finds
+unfoldable pub firstFault : List ℕ → Option Fault
+firstFault text = cond (ltb 512 (length text)) (Some LongText) (scan (signs text) (want 0 0 []))

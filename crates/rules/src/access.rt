@@ -3,7 +3,8 @@ ghost use mathlib.Core.Path.{_≡_};
 ghost use mathlib.Core.Bool.{true};
 ghost use mathlib.Core.List.{_∷_, []};
 ghost use lib.ListN.{length, take};
-ghost use Rattle.rules.specs.Rules.{nodeCount, letterCount, nodesOf, lettersOf};
+ghost use Rattle.rules.specs.Rules.{nodeCount, letterCount, nodesOf, lettersOf, treeOfRule};
+ghost use Rattle.rules.specs.Tree.{flatten};
 ghost use Rattle.rules.specs.declared.node.Node.the-variants.{Truth};
 use crate::name::Name;
 use crate::node::Node;
@@ -46,6 +47,7 @@ impl Rule {
     pub fn nodes(&self) -> &[Node]
         ensures same { λ r. ⌜ now r ≡ nodesOf (now (self .entry)) ⌝ }
         ensures long { λ r. ⌜ length (now r) ≡ nodeCount (now (self .entry)) ⌝ }
+        ensures whole { λ r. ⌜ now r ≡ flatten (treeOfRule (now (self .entry))) 0 ⌝ }
     {
         &self.table.nodes[0..self.table.size]
     }

@@ -3,10 +3,11 @@ ghost use mathlib.Core.Path.{_≡_};
 ghost use mathlib.Core.List.{[]};
 ghost use Prim.Native.Nat.{suc, _+_, _<_, _≤_};
 ghost use Rattle.rules.specs.Signs.{stopAt, lex, sign};
-ghost use Rattle.rules.specs.Scan.{Halts, NextStep, want, halt};
-ghost use Rattle.rules.specs.Grammar.{rankOf, rightward, rankAt, Ended};
+ghost use Rattle.rules.specs.Scan.{want};
+ghost use Rattle.rules.specs.Rest.{Halts, NextStep, halt, rankAt, Ended};
+ghost use Rattle.rules.specs.Grammar.{rankOf, rightward};
 ghost use Rattle.rules.specs.Names.{namesIn};
-ghost use Rattle.rules.specs.Reading.{Put, Parsed, Whole};
+ghost use Rattle.rules.specs.Descent.{Put, Parsed, Built};
 ghost use Rattle.rules.specs.declared.sign.Why.the-variants.{ManyNodes};
 ghost use Rattle.rules.specs.declared.sign.Sign.the-variants.{Close};
 ghost use Rattle.std.specs.Results.{Cases};
@@ -200,7 +201,7 @@ fn level<'a>(
 
 // The table of the rule that a text says, or where its reading stops.
 pub(crate) fn parse(text: &[u8]) -> Result<Table, Stop>
-    ensures { λ r. ⌜ Cases r (λ b. Whole (now (text .entry)) b) (λ f. Halts (now (text .entry)) (want 0 0 []) f) ⌝ }
+    ensures { λ r. ⌜ Cases r (λ b. Built (now (text .entry)) b) (λ f. Halts (now (text .entry)) (want 0 0 []) f) ⌝ }
 {
     // its room is taken from the first node on
     let mut table = Table::verum();

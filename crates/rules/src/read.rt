@@ -1,11 +1,11 @@
 // A rule from its text.
 ghost use mathlib.Core.Path.{_≡_};
-ghost use mathlib.Core.Bool.{true};
+ghost use Rattle.rules.specs.Faults.{faultOf};
+ghost use Rattle.rules.specs.First.{answer, Left};
 ghost use Rattle.rules.specs.Grammar.{OneTree};
-ghost use Rattle.rules.specs.Reading.{Whole, Within, Refused, faultOf};
-ghost use Rattle.rules.specs.declared.fault.Fault.{Fault as Refusal};
-ghost use Rattle.std.specs.Results.{Cases, isOk};
-ghost use Rattle.std.specs.declared.result.Result.the-variants.{Err};
+ghost use Rattle.rules.specs.Reading.{Whole, Within};
+ghost use Rattle.rules.specs.Scan.{firstFault};
+ghost use Rattle.std.specs.declared.result.Result.the-variants.{Ok};
 use crate::fault::Fault;
 use crate::parse::parse;
 use crate::rule::Rule;
@@ -33,10 +33,10 @@ fn fault(stop: Stop, total: usize) -> Fault
 impl Rule {
     // READS A TEXT into the rule, which stays as it was where the text is refused.
     pub fn read(&mut self, text: &[u8]) -> Result<(), Fault>
-        ensures outcome { λ r. ⌜ Cases r (λ _. Whole (now (text .entry)) (now (self .exit) .table)) (λ f. Refused (now (text .entry)) f × (now (self .exit) ≡ now (self .entry))) ⌝ }
-        ensures single { λ _. ⌜ OneTree (now (text .entry)) ⌝ }
-        ensures accepts { λ r. ⌜ (Within (now (text .entry)) → isOk r ≡ true) ⌝ }
-        ensures always { λ r. ⌜ ((f : Refusal) → Refused (now (text .entry)) f → r ≡ Err f) ⌝ }
+        ensures answers { λ r. ⌜ r ≡ answer (firstFault (now (text .entry))) tt ⌝ }
+        ensures leaves { λ _. ⌜ Left (firstFault (now (text .entry))) (now (self .exit) ≡ now (self .entry)) (Whole (now (text .entry)) (now (self .exit))) ⌝ }
+        ensures one_tree { λ _. ⌜ OneTree ⌝ }
+        ensures reads_all { λ r. ⌜ (Within (now (text .entry)) → r ≡ Ok tt) ⌝ }
     {
         if text.len() > TEXT_BYTES {
             return Err(Fault::LongText);

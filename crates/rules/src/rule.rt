@@ -1,8 +1,9 @@
 // A rule as a table of nodes, operands first. The last node is the whole rule.
 ghost use mathlib.Core.Path.{_≡_};
 ghost use mathlib.Core.Bool.{true};
-ghost use Prim.Native.Nat.{ℕ, _≤_, _<_};
-ghost use Rattle.rules.specs.Tree.{fits, nodeAt};
+ghost use Prim.Native.Nat.{ℕ, _-_, _≤_, _<_};
+ghost use lib.ListN.{take};
+ghost use Rattle.rules.specs.Tree.{fits, nodeAt, decode, flatten};
 use crate::name::Name;
 use crate::node::Node;
 
@@ -29,4 +30,5 @@ pub struct Rule {
     ghost few: { table .size ≤ 64 },
     ghost known: { table .count ≤ 8 },
     ghost ok: { (i : ℕ) → i < table .size → fits (table .count) i (nodeAt (table .nodes) i) ≡ true },
+    ghost flat: { ∥ flatten (decode (nodeAt (take (table .size) (table .nodes))) (table .size - 1)) 0 ≡ take (table .size) (table .nodes) ∥₁ },
 }

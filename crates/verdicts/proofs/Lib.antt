@@ -1,5 +1,4 @@
 pub mod Fill
-pub mod Flat
 pub mod Lift
 pub mod Recur
 pub mod Rules

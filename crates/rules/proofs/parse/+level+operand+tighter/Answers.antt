@@ -3,8 +3,8 @@ use Prim.Native.Nat.{ℕ, suc, _+_, _<_}
 use mathlib.Core.Logic.{inl, inr}
 use native.Mathlib.Omega.{arith}
 use Rattle.std.proofs.shelf.Results.{err-from-errBy}
-use Rattle.rules.specs.Grammar.{rankAt}
-use Rattle.rules.specs.Reading.{Parsed}
+use Rattle.rules.specs.Descent.{Parsed}
+use Rattle.rules.specs.Rest.{rankAt}
 use Rattle.rules.proofs.Fronts.{is-sign, shorter-between, shorter-before, shorter-open}
 use Rattle.rules.proofs.Levels.{behind-between, name-parsed, truth-parsed, before-parsed, group-parsed, start, rank-next, no-rank, Side, side-shorter, turn-on}
 use Rattle.rules.proofs.Steps.{later, at-once, at-bad, full-name, full-truth, full-before, full-between, many-names, too-deep, no-operand, behind-before, behind-open}

@@ -13,7 +13,7 @@ use Rattle.verdicts.specs.Step.{Ordered, Lettered, at}
 use Rattle.rules.specs.First.{Left, answer}
 use Rattle.verdicts.specs.Outcome.{Filled, refused, recorded}
 use Rattle.verdicts.proofs.Fill.{filled-as}
-use Rattle.verdicts.proofs.Flat.{flat-decode}
+use Rattle.rules.proofs.Flat.{flat-decode}
 use Rattle.verdicts.proofs.Rules.{nodes-ordered, nodes-lettered}
 use Rattle.verdicts.proofs.backward.evaluate.Needs as need
 

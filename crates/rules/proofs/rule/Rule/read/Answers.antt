@@ -1,51 +1,41 @@
-use mathlib.Core.Path.{refl, sym, ap, subst, _∙_}
+use mathlib.Core.Path.{_≡_, refl, sym, ap, subst, _∙_}
 use Prim.Native.Nat.{_≤_}
 use native.Mathlib.Omega.{arith}
 use borrow.Author.Needs.{needs}
 use lib.ListN.{length}
-use Rattle.std.specs.declared.result.Result.the-variants.{Err}
-use Rattle.rules.specs.Reading.{Refused, too-long, first}
-use Rattle.rules.proofs.Fitting.{size-some, whole-fits}
+use Rattle.std.specs.declared.option.Option.the-variants.{Some}
+use Rattle.rules.specs.First.{answer, Left}
+use Rattle.rules.specs.Scan.{firstFault}
+use Rattle.rules.proofs.Fitting.{size-some, built-fits}
 use Rattle.rules.proofs.OneTree.{one-tree}
-use Rattle.rules.proofs.Outcome.{only-long, only-first, never-whole, never-within}
-use Rattle.rules.proofs.Places.{inside}
+use Rattle.rules.proofs.Outcome.{too-long, stopped, no-fault, built-flat, built-whole, reads-all}
 use Rattle.rules.proofs.rule.Rule.read.Needs as need
 
 pub returns-then-text-gt-TEXT-BYTES : need.returns-then-text-gt-TEXT-BYTES
 returns-then-text-gt-TEXT-BYTES c =
-    let long = c .if-text-gt-TEXT-BYTES .taken in
-    record {
-      outcome = (too-long long, refl);
-      single = one-tree (c .args .text .now);
-      accepts = λ w. absurd (never-within (too-long long) w);
-      always = λ f r. ap Err (only-long long r);
-    }
+    let e = too-long (c .args .text .now) (c .if-text-gt-TEXT-BYTES .taken) in
+    let is = ap (λ o. answer o tt) (sym e) in
+    record { answers = is; leaves = rw e refl; one-tree = one-tree; reads-all = reads-all is }
 
 pub ghost-self : need.ghost-self
 ghost-self c =
     let w = c .in-Ok .ensures tt in
     let b = c .in-Ok .table in
     let room : b .count ≤ length (b .letters) = search needs in
-    (omega (arith, w .size-is, size-some (w .tree)), (w .fits, (w .few, (whole-fits b w room, tt))))
+    let space : b .size ≤ length (b .nodes) = search needs in
+    (omega (arith, w .size-is, size-some (w .tree)), (w .fits, (w .few, (built-fits b w room, (∣ built-flat b w space ∣₁, tt)))))
 
 pub returns-in-Ok : need.returns-in-Ok
 returns-in-Ok c =
-    record {
-      outcome = c .in-Ok .ensures tt;
-      single = one-tree (c .args .text .now);
-      accepts = λ _. refl;
-      always = λ f r. absurd (never-whole (c .if-text-gt-TEXT-BYTES .left) (c .in-Ok .ensures tt) r);
-    }
+    let w = c .in-Ok .ensures tt in
+    let b = c .in-Ok .table in
+    let e = no-fault (c .args .text .now) b (c .if-text-gt-TEXT-BYTES .left) w in
+    let space : b .size ≤ length (b .nodes) = search needs in
+    let is = ap (λ o. answer o tt) (sym e) in
+    record { answers = is; leaves = rw e (built-whole _ w space); one-tree = one-tree; reads-all = reads-all is }
 
 pub returns-in-Err : need.returns-in-Err
 returns-in-Err c =
-    let e = c .fault .ensures in
-    let short = c .if-text-gt-TEXT-BYTES .left in
-    let halts = c .in-Err .ensures tt in
-    let refused = first short (inside halts) halts in
-    record {
-      outcome = (subst (Refused (c .args .text .now)) (sym e) refused, refl);
-      single = one-tree (c .args .text .now);
-      accepts = λ w. absurd (never-within refused w);
-      always = λ f r. ap Err (e ∙ only-first short halts r);
-    }
+    let e = stopped (c .args .text .now) (c .in-Err .stop) (c .if-text-gt-TEXT-BYTES .left) (c .in-Err .ensures tt) ∙ ap Some (sym (c .fault .ensures)) in
+    let is = ap (λ o. answer o tt) (sym e) in
+    record { answers = is; leaves = rw e refl; one-tree = one-tree; reads-all = reads-all is }

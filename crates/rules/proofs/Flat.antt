@@ -1,13 +1,18 @@
--- A table that a tree was written to decodes to that tree. Assumes nothing.
+-- A table that a tree was written to decodes to that tree, and a rule's table is the table of its tree. Assumes nothing.
 use mathlib.Core.Path.{_≡_, refl, sym, ap, ap₂, subst, _∙_}
 use mathlib.Core.List.{List, [], _∷_, _++_}
+use mathlib.Core.Logic.{∥∥₁-elim}
 use Prim.Native.Nat.{ℕ, zero, suc, _+_, _-_, _<_, _≤_}
 use native.Mathlib.Nat.{not-suc-le-zero, add-assoc}
 use native.Mathlib.Omega.{arith}
+use base.Stored.{coded-set, codedList}
 use lib.ListN.{length, getD, length-append}
 use Rattle.std.proofs.shelf.Lists.{getD-append-left, getD-append-right, getD-at}
+use Rattle.rules.specs.Rules.{nodesOf, treeOfRule}
 use Rattle.rules.specs.Tree.{Tree, size, flatten, treeOf, within, decode, nodeAt}
+use Rattle.rules.specs.contracts.node.Node.{the-row}
 use Rattle.rules.specs.declared.node.Node.{Node}
+use Rattle.rules.specs.declared.rule.Rule.{Rule}
 
 abbrev none : Node
 none = Node.Letter 0
@@ -16,7 +21,8 @@ none = Node.Letter 0
 abbrev From : (ℕ → Node) → ℕ → List Node → ℕ → Type 0
 From node b xs m = (j : ℕ) → j < m → node (b + j) ≡ getD xs j none
 
-flat-length : (t : Tree ℕ) (b : ℕ) → length (flatten t b) ≡ size t
+-- how long the table of a tree is
+pub flat-length : (t : Tree ℕ) (b : ℕ) → length (flatten t b) ≡ size t
 flat-length (Tree.leaf l) b = refl
 flat-length (Tree.truth v) b = refl
 flat-length (Tree.before u x) b =
@@ -79,3 +85,7 @@ flat-decode t ns m is e =
     (flat-whole t (nodeAt ns) 0 (suc (m - 1))
     (λ j h. let start : 0 + j ≡ j = omega arith in ap (nodeAt ns) start ∙ ap (λ xs. getD xs j none) (sym e))
     (omega arith))
+
+-- a rule's table is that of its tree
+pub rule-flat : (r : Rule) → flatten (treeOfRule r) 0 ≡ nodesOf r
+rule-flat r = ∥∥₁-elim (r .flat) (coded-set (codedList (the-row .coded)) _ _) (λ e. e)
