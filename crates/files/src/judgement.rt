@@ -11,16 +11,21 @@ ghost use Rattle.files.specs.Report.{reportOf};
 use crate::answer::Answer;
 use crate::display::AnswerDisplay;
 use crate::event_lines::events;
+use crate::header::Kind;
 use crate::header::names_line;
 use crate::header::reading_line;
 use crate::header::rule_line;
 use crate::lines::Lines;
+use crate::logged::Logged;
+use crate::logged::PanelLogged;
+use crate::logged::WordsLogged;
 use crate::stop::Stop;
 use crate::stop::StopFromAllocError;
 use crate::stop::StopFromFault;
 use readings::BoundRule;
+use readings::Panel;
+use readings::Reading;
 use readings::Words;
-use readings::WordsReading;
 use rules::Fault;
 use std::alloc::AllocError;
 use std::alloc::Global;
@@ -36,7 +41,7 @@ const FILE: usize = 60_000;
 const SCRATCH: usize = 128;
 
 // The verdict on a trace.
-fn verdict(heap: Global, bound: &BoundRule<Words>, trace: &[u32]) -> Result<YesNo, Stop>
+fn verdict<R: Reading>(heap: Global, bound: &BoundRule<R>, trace: &[u32]) -> Result<YesNo, Stop>
     requires { ⌜ length (now trace) ≤ 4095 ⌝ }
 {
     let k = bound.rule().letters().len();
@@ -52,15 +57,22 @@ fn verdict(heap: Global, bound: &BoundRule<Words>, trace: &[u32]) -> Result<YesN
     Ok(verdict)
 }
 
-// The verdict on what the lines say, or why there is none.
-fn judged(heap: Global, lines: &mut Lines) -> Result<YesNo, Stop> {
-    reading_line(lines)?;
-    let words = names_line(heap, lines)?;
+// The verdict on what the lines behind the first say, or why there is none.
+fn judged_by<R: Logged + Drop>(heap: Global, lines: &mut Lines) -> Result<YesNo, Stop> {
+    let reading: R = names_line(heap, lines)?;
     let rule = rule_line(lines)?;
-    BoundRule::check(&rule, &words)?;
-    let bound = BoundRule::new(rule, words);
-    let trace = events(heap, lines, &words)?;
+    BoundRule::check(&rule, &reading)?;
+    let bound = BoundRule::new(rule, reading);
+    let trace = events(heap, lines, &bound)?;
     verdict(heap, &bound, trace.as_slice())
+}
+
+// The same for all lines.
+fn judged(heap: Global, lines: &mut Lines) -> Result<YesNo, Stop> {
+    match reading_line(lines)? {
+        Kind::Words => judged_by::<Words>(heap, lines),
+        Kind::Panel => judged_by::<Panel>(heap, lines),
+    }
 }
 
 // What is said of a file. A fault has the number of the line where the reading of lines stopped.

@@ -1,10 +1,12 @@
 // A log file: its lines, and the report on it.
 mod answer;
+mod decimal;
 mod display;
 mod event_lines;
 mod header;
 mod judgement;
 mod lines;
+mod logged;
 mod stop;
 
 pub use answer::Answer;

@@ -10,7 +10,7 @@ use std::alloc::AllocError;
 use std::alloc::Global;
 
 // How many bytes stand before the first `stop`, or how many there are.
-fn until(text: &[u8], stop: u8) -> usize
+pub(crate) fn until(text: &[u8], stop: u8) -> usize
     ensures value { λ r. ⌜ r ≡ before stop (now (text .entry)) ⌝ }
     ensures within { λ r. ⌜ r ≤ length (now (text .entry)) ⌝ }
 {

@@ -2,7 +2,8 @@
 use mathlib.Core.Path.{_≡_, refl, sym, ap, ap₂, subst, _∙_}
 use mathlib.Core.Bool.{Bool, true, false, cond}
 use mathlib.Core.List.{List, [], _∷_, _++_, map}
-use Prim.Native.Nat.{ℕ, _+_, _<_, _≤_}
+use mathlib.Core.Logic.{_⊎_, inl, inr, ⊎-elim}
+use Prim.Native.Nat.{ℕ, zero, suc, _+_, _<_, _≤_}
 use native.Mathlib.Omega.{arith}
 use lib.ListN.{length, getD, set, take}
 use Rattle.std.proofs.shelf.Lists.{getD-map, length-map, length-take-le, getD-take, take-more-set, map-more}
@@ -10,7 +11,7 @@ use Rattle.std.proofs.shelf.Tests.{cond-true, cond-false, both-ways}
 use Rattle.std.specs.Options.{isSome, valueOr}
 use Rattle.std.specs.declared.option.Option.{Option}
 use Rattle.std.specs.declared.option.Option.the-variants.{Some, None}
-use Rattle.rules.specs.First.{first}
+use Rattle.rules.specs.First.{first, orElse}
 use Rattle.rules.specs.Names.{spelled, sameName}
 use Rattle.rules.specs.declared.name.Name.{Name}
 use Rattle.rules.proofs.First.{first-more, first-some}
@@ -49,6 +50,31 @@ module _ (ns : List (List ℕ)) (n : List ℕ) (i : ℕ) where
   pub not-found : i ≡ length ns → first i (hit ns n) ≡ None → findIn ns n ≡ None
   unfolding findIn
   not-found e none = subst (λ k. first k (hit ns n) ≡ None) e none
+
+from-either : {X : Type 0} (a b : Option X) (x : X) → orElse a b ≡ Some x → (a ≡ Some x) ⊎ (b ≡ Some x)
+from-either None b x e = inr e
+from-either (Some y) b x e = inl e
+
+-- what a search finds stands at some place
+first-from : {X : Type 0} (f : ℕ → Option X) (n : ℕ) (x : X) → first n f ≡ Some x → (i : ℕ) × (i < n) × (f i ≡ Some x)
+unfolding first
+first-from f zero x e = let z : _≡_ {A = ℕ} 0 1 = cc in absurd (omega arith)
+first-from f (suc n) x e =
+    let before : first n f ≡ Some x → (i : ℕ) × (i < suc n) × (f i ≡ Some x) = λ h. let r = first-from f n x h in (r .0, omega (arith, r .1), r .2) in
+    ⊎-elim before (λ (h : f n ≡ Some x). (n, omega arith, h)) (from-either (first n f) (f n) x e)
+
+hit-number : (b : Bool) (i k : ℕ) → cond b (Some (i + 1)) None ≡ Some k → i + 1 ≡ k
+hit-number true i k e = cc
+hit-number false i k e = cc
+
+-- a name that is found has a number of the list
+pub found-within : (ns : List (List ℕ)) (n : List ℕ) (k : ℕ) → findIn ns n ≡ Some k → (1 ≤ k) × (k ≤ length ns)
+unfolding findIn
+found-within ns n k e =
+    let r = first-from (hit ns n) (length ns) k e in
+    let is = hit-number (sameName (nameAt ns (r .0)) n) (r .0) k (r .2) in
+    let low = r .1 in
+    (omega arith, omega arith)
 
 -- what binding looks at in letter i
 abbrev pub absence : Meaning → List Letter → ℕ → Option Fault

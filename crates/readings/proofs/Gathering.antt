@@ -2,13 +2,14 @@
 use mathlib.Core.Path.{_≡_, refl, sym, ap, subst, _∙_}
 use mathlib.Core.Bool.{Bool, true, false, cond}
 use mathlib.Core.List.{List, [], _∷_, _++_}
+use mathlib.Core.Logic.{⊎-elim}
 use Prim.Native.Nat.{ℕ, _+_, _<_, _≤_}
 use native.Mathlib.Omega.{arith}
 use denote.Ref.{RefT}
 use lib.Dec.{ltb}
 use lib.ListN.{length, getD, take}
 use Rattle.std.proofs.shelf.Lists.{getD-map, length-map}
-use Rattle.std.proofs.shelf.Tests.{cond-true, cond-false, lt-ltb, le-ltb}
+use Rattle.std.proofs.shelf.Tests.{cond-true, cond-false, cases-lt, lt-ltb, le-ltb}
 use Rattle.std.specs.Options.{isSome}
 use Rattle.std.specs.declared.option.Option.{Option}
 use Rattle.std.specs.declared.option.Option.the-variants.{Some, None}
@@ -17,7 +18,7 @@ use Rattle.rules.specs.Signs.{isName}
 use Rattle.rules.specs.declared.fault.Fault.{Fault}
 use Rattle.rules.specs.declared.fault.Fault.the-variants.{ManyNames, NotAName, RepeatedName}
 use Rattle.rules.proofs.First.{first-some}
-use Rattle.readings.specs.Listed.{lent, nameAt, findIn, wrongAt, refusedNames}
+use Rattle.readings.specs.Listed.{lent, nameAt, findIn, wrongAt, refusedNames, keptBy}
 
 pub lent-length : (ns : List (RefT (List ℕ))) → length (lent ns) ≡ length ns
 lent-length ns = length-map ns (λ x. x .now)
@@ -39,6 +40,15 @@ module _ (most : ℕ) (ns : List (List ℕ)) where
   unfolding refusedNames
   none-wrong i h all none =
       cond-false (ltb most (length ns)) _ _ (le-ltb most (length ns) h) ∙ subst (λ k. first k (wrongAt ns) ≡ None) all none
+
+kept-few-by : (most : ℕ) (ns : List (List ℕ)) (o : Option Fault) → refusedNames most ns ≡ o → length (keptBy o ns) ≤ most
+kept-few-by most ns None e =
+    ⊎-elim (λ (h : most < length ns). let f = too-many most ns h in let z : _≡_ {A = ℕ} 0 1 = cc in absurd (omega arith)) (λ (h : length ns ≤ most). h) (cases-lt most (length ns))
+kept-few-by most ns (Some f) e = omega arith
+
+-- no more names are kept than may be
+pub kept-few : (most : ℕ) (ns : List (List ℕ)) → length (keptBy (refusedNames most ns) ns) ≤ most
+kept-few most ns = kept-few-by most ns (refusedNames most ns) refl
 
 module _ (ns : List (List ℕ)) (i : ℕ) where
   pub no-name : isName (nameAt ns i) ≡ false → wrongAt ns i ≡ Some (NotAName (i + 1))

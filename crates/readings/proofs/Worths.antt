@@ -1,9 +1,9 @@
 -- The worth of a list's places, one place at a time. Assumes nothing.
-use mathlib.Core.Path.{_≡_, refl, sym, ap, _∙_}
+use mathlib.Core.Path.{_≡_, refl, sym, ap, ap₂, _∙_}
 use mathlib.Core.Bool.{Bool, true, false, cond}
 use mathlib.Core.Logic.{⊎-elim}
 use mathlib.Core.List.{List, [], _∷_, _++_}
-use Prim.Native.Nat.{ℕ, _+_, _*_, _^_, _<_, _≤_, min}
+use Prim.Native.Nat.{ℕ, suc, _+_, _*_, _^_, _<_, _≤_, min}
 use native.Mathlib.Omega.{arith}
 use lib.ListN.{length, take, getD}
 use lib.Pow.{pow-add}
@@ -47,3 +47,22 @@ gain p xs i w v r b within is small so test gained =
 pub first-eight : (xs : List ℕ) (i : ℕ) → min (length xs) 8 ≤ i → i ≤ min (length xs) 8 → take i xs ≡ take 8 xs
 first-eight xs i least most =
     ⊎-elim (λ (h : length xs < 8). take-all i xs (omega arith) ∙ sym (take-all 8 xs (omega arith))) (λ (h : 8 ≤ length xs). let e : i ≡ 8 = omega arith in ap (λ n. take n xs) e) (cases-lt (length xs) 8)
+
+-- tests that agree on the list make the same set
+pub worth-same : (p q : ℕ → Bool) (k : ℕ) (xs : List ℕ) → ((i : ℕ) → i < length xs → p (getD xs i 0) ≡ q (getD xs i 0)) → worth p k xs ≡ worth q k xs
+unfolding worth
+worth-same p q k [] e = refl
+worth-same p q k (x ∷ xs) e = ap₂ (λ b v. cond b (2 ^ k) 0 + v) (e 0 (omega arith)) (worth-same p q (k + 1) xs (λ i h. e (suc i) (omega arith)))
+
+pub worth-none : (p : ℕ → Bool) (k : ℕ) (xs : List ℕ) → ((n : ℕ) → p n ≡ false) → worth p k xs ≡ 0
+unfolding worth
+worth-none p k [] e = refl
+worth-none p k (x ∷ xs) e = ap₂ (λ b v. cond b (2 ^ k) 0 + v) (e x) (worth-none p (k + 1) xs e)
+
+-- a set of eight places is a byte
+pub worth-below : (p : ℕ → Bool) (k : ℕ) (xs : List ℕ) → worth p k xs + 2 ^ k ≤ 2 ^ (k + length xs)
+unfolding worth
+worth-below p k [] = let same : k ≡ k + 0 = omega arith in omega (arith, ap (λ n. 2 ^ n) same)
+worth-below p k (x ∷ xs) =
+    let same : k + 1 + length xs ≡ k + length (x ∷ xs) = omega arith in
+    omega (arith, ap (λ n. 2 ^ n) same, pow-add 2 k 1, cond-most (p x) (2 ^ k), worth-below p (k + 1) xs)

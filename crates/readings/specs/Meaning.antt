@@ -1,7 +1,8 @@
 -- What a reading says of its codes, and the sets that it shows for a list of names. Assumes nothing.
+use mathlib.Core.Path.{_≡_}
 use mathlib.Core.Bool.{Bool, true, false, cond, _&&_}
 use mathlib.Core.List.{List, [], _∷_}
-use Prim.Native.Nat.{ℕ, _+_, _^_}
+use Prim.Native.Nat.{ℕ, _+_, _^_, _<_}
 use lib.Dec.{ltb, leb}
 use lib.ListN.{take}
 use Rattle.std.specs.declared.option.Option.{Option}
@@ -40,3 +41,7 @@ onSet m c ns = worth (λ n. isOn (markOf m c n)) 0 (take 8 ns)
 
 unfoldable pub doubtSet : Meaning → ℕ → List ℕ → ℕ
 doubtSet m c ns = worth (λ n. inDoubt (markOf m c n)) 0 (take 8 ns)
+
+-- A SET IS POSSIBLE if some code shows just it on, and nothing in doubt
+abbrev pub Possible : Meaning → List ℕ → ℕ → Type 0
+Possible m ns set = (c : ℕ) × (c < m .codes) × (onSet m c ns ≡ set) × (doubtSet m c ns ≡ 0)

@@ -1,8 +1,11 @@
 // Binding a rule to a reading, and asking a bound rule for its parts.
+ghost use mathlib.Core.Bool.{not};
 ghost use mathlib.Core.Path.{_≡_};
+ghost use lib.Dec.{eqb};
 ghost use lib.ListN.{length, take};
 ghost use Rattle.rules.specs.First.{answer};
 ghost use Rattle.rules.specs.Rules.{lettersOf, letterCount};
+ghost use Rattle.readings.specs.Meaning.{doubtSet};
 ghost use Rattle.readings.specs.Binding.{unbound, numbersFor, numbersOf};
 use crate::bound::BoundRule;
 use crate::reading::Reading;
@@ -56,6 +59,14 @@ impl<R: Reading> BoundRule<R> {
         ensures long { λ r. ⌜ length (now r) ≡ letterCount (now (self .entry) .rule) ⌝ }
     {
         &self.numbers[0..self.rule.letters().len()]
+    }
+
+    // Whether a letter of the rule is in doubt at this code.
+    pub fn in_doubt(&self, code: u32) -> bool
+        ensures { λ r. ⌜ r ≡ not (eqb (doubtSet (meaning (now (self .entry) .reading)) code (numbersOf (now (self .entry)))) 0) ⌝ }
+    {
+        let (_, doubt) = self.reading.show(code, self.numbers());
+        doubt != 0
     }
 }
 

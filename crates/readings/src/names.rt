@@ -1,7 +1,9 @@
 // Checking a list of names, making one, and finding a name in it.
+ghost use mathlib.Core.Bool.{_&&_};
 ghost use mathlib.Core.List.{List, [], _∷_, _++_};
 ghost use mathlib.Core.Path.{_≡_};
 ghost use Prim.Native.Nat.{ℕ, _<_, _≤_, _+_};
+ghost use lib.Dec.{ltb, leb};
 ghost use lib.ListN.{length};
 ghost use Rattle.std.specs.declared.option.Option.the-variants.{None, Some};
 ghost use Rattle.std.specs.Results.{Cases};
@@ -44,6 +46,13 @@ impl NameList {
             }
         }
         None
+    }
+
+    // Whether a name has this number.
+    pub(crate) fn has(&self, name: u8) -> bool
+        ensures { λ r. ⌜ r ≡ (ltb 0 name && leb name (length (spellings (now (self .entry))))) ⌝ }
+    {
+        name > 0 && name as usize <= self.count
     }
 
     // The list of these names, at most so many, or why it is refused.

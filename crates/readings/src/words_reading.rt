@@ -45,8 +45,7 @@ pub impl Reading for Words as WordsReading {
     }
 
     fn mark(&self, code: u32, name: u8) -> Mark {
-        let there = name > 0 && name as usize <= self.list.count;
-        if there && code == name as u32 {
+        if self.list.has(name) && code == name as u32 {
             Mark::On
         } else {
             Mark::Off

@@ -2,4 +2,4 @@ use Rattle.files.proofs.Parting.{begins-shorter}
 use Rattle.files.proofs.event_lines.events.Needs as need
 
 pub loop-lines-less : need.loop-lines-less
-loop-lines-less c = begins-shorter (c .in-Continue-next-line .ensures tt)
+loop-lines-less g c = begins-shorter (c .in-Continue-next-line .ensures tt)

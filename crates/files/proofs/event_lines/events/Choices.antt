@@ -4,7 +4,7 @@ use Rattle.std.specs.Of.Vec.{vec-len}
 use Rattle.files.proofs.event_lines.events.Given as given
 
 abbrev pub Inv-loop-lines : given.InvT-loop-lines
-Inv-loop-lines l = vec-len (l .trace) ≤ 4095
+Inv-loop-lines g l = vec-len (l .trace) ≤ 4095
 
 abbrev pub μ-loop-lines : given.MeasureT-loop-lines
-μ-loop-lines l = length (l .lines .rest .now)
+μ-loop-lines g l = length (l .lines .rest .now)

@@ -1,8 +1,10 @@
-use mathlib.Core.Path.{refl, sym, ap, _∙_}
+use mathlib.Core.Path.{refl, sym, ap, ap₂, _∙_}
 use Prim.Native.Nat.{_<_}
 use native.Mathlib.Omega.{arith}
-use lib.ListN.{length}
+use lib.Bits.{bitAnd}
+use lib.ListN.{length, take}
 use Rattle.readings.specs.Meaning.{markOf, isOn, inDoubt, worth, onSet, doubtSet}
+use Rattle.readings.proofs.Bits.{sets-apart}
 use Rattle.readings.proofs.Worths.{gain, twice, first-eight}
 use Rattle.readings.proofs.reading.Reading.show.Needs as need
 
@@ -22,5 +24,8 @@ loop-i-again g c =
 pub returns : need.returns
 unfolding onSet doubtSet
 returns g c =
+    let m = g .Self·Reading .meaning (c .args .self .now) in
     let eight = first-eight (c .args .names .now) (c .loop-i .i) (omega arith) (omega arith) in
-    record { on = c .loop-i .inv .3 ∙ ap (worth _ 0) eight; doubt = c .loop-i .inv .4 ∙ ap (worth _ 0) eight }
+    let on = c .loop-i .inv .3 ∙ ap (worth (λ n. isOn (markOf m (c .args .code) n)) 0) eight in
+    let doubt = c .loop-i .inv .4 ∙ ap (worth (λ n. inDoubt (markOf m (c .args .code) n)) 0) eight in
+    record { on = on; doubt = doubt; apart = ap₂ bitAnd on doubt ∙ sets-apart (markOf m (c .args .code)) (take 8 (c .args .names .now)) }
