@@ -4,13 +4,14 @@ use Prim.Native.Nat.{ℕ}
 use lib.Chars.{codes}
 use Rattle.std.specs.Written.{decimal}
 use Rattle.rules.specs.Faults.{numberOf, layerOf, layerNumber, placeOf}
-use Rattle.verdicts.specs.declared.scale.YesNo.{YesNo}
-use Rattle.verdicts.specs.declared.scale.YesNo.the-variants.{Broken, Kept}
+use Rattle.verdicts.specs.declared.three_way.ThreeWay.{ThreeWay}
+use Rattle.verdicts.specs.declared.three_way.ThreeWay.the-variants.{Broken, Unclear, Kept}
 use Rattle.files.specs.declared.answer.Answer.{Answer}
 use Rattle.files.specs.declared.answer.Answer.the-variants.{Verdict, Refused}
 
-abbrev pub verdictWord : YesNo → List ℕ
+abbrev pub verdictWord : ThreeWay → List ℕ
 verdictWord Kept = codes "kept"
+verdictWord Unclear = codes "unclear"
 verdictWord Broken = codes "broken"
 
 -- a tab, and then a number

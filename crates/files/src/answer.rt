@@ -1,10 +1,10 @@
 // What is said of a file: the verdict on its events, or its first fault.
 use rules::Fault;
-use verdicts::YesNo;
+use verdicts::ThreeWay;
 
 #[derive(Clone, Copy)]
 pub enum Answer {
-    Verdict(YesNo),
+    Verdict(ThreeWay),
     // a fault, and the line of the file that has it
     Refused(Fault, usize),
 }

@@ -7,7 +7,6 @@ use crate::logged::Logged;
 use crate::stop::Stop;
 use crate::stop::StopFromFault;
 use crate::stop::StopFromRefused;
-use readings::BoundRule;
 use rules::Fault;
 use std::alloc::Global;
 
@@ -22,22 +21,19 @@ fn event<R: Logged>(reading: &R, line: &[u8]) -> Result<u32, Fault> {
     reading.code(text).ok_or(Fault::OutOfForm)
 }
 
-// The codes of all events, up to the end of the file. A doubt about a letter is told at its own line.
+// The codes of all events, up to the end of the file.
 pub(crate) fn events<R: Logged>(
     heap: Global,
     lines: &mut Lines,
-    bound: &BoundRule<R>,
+    reading: &R,
 ) -> Result<Vec<u32>, Stop>
     ensures { λ r. ⌜ made r (λ v. vec-len v ≤ 4095) ⌝ }
 {
     let mut trace = Vec::new(heap);
     while lines.more() {
-        let code = event(bound.reading(), lines.next_line()?)?;
+        let code = event(reading, lines.next_line()?)?;
         if trace.len() >= EVENTS {
             return Err(Stop::Fault(Fault::ManyEvents));
-        }
-        if bound.in_doubt(code) {
-            return Err(Stop::Fault(Fault::InDoubt(trace.len() + 1)));
         }
         trace.push(code)?;
     }

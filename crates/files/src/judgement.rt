@@ -29,6 +29,9 @@ use readings::Words;
 use rules::Fault;
 use std::alloc::AllocError;
 use std::alloc::Global;
+use verdicts::Scale;
+use verdicts::ThreeWay;
+use verdicts::ThreeWayScale;
 use verdicts::YesNo;
 use verdicts::YesNoScale;
 use verdicts::evaluate;
@@ -40,35 +43,53 @@ const FILE: usize = 60_000;
 // Two values for each of a rule's nodes, of which there are at most 64.
 const SCRATCH: usize = 128;
 
-// The verdict on a trace.
-fn verdict<R: Reading>(heap: Global, bound: &BoundRule<R>, trace: &[u32]) -> Result<YesNo, Stop>
+// The verdict on a trace, on any scale.
+fn verdict<S: Scale + Clone, R: Reading>(
+    heap: Global,
+    bound: &BoundRule<R>,
+    trace: &[u32],
+) -> Result<S, Stop>
     requires { ⌜ length (now trace) ≤ 4095 ⌝ }
 {
     let k = bound.rule().letters().len();
-    let mut valuation = vec![in heap; YesNo::Broken; trace.len() * k]?;
+    let mut valuation = vec![in heap; S::bottom(); trace.len() * k]?;
     valuate(bound, trace, valuation.as_mut_slice())?;
-    let mut scratch = [YesNo::Broken; SCRATCH];
+    let mut scratch = vec![in heap; S::bottom(); SCRATCH]?;
     let verdict = evaluate(
         bound.rule(),
         trace.len(),
         valuation.as_slice(),
-        &mut scratch,
+        scratch.as_mut_slice(),
     )?;
     Ok(verdict)
 }
 
-// The verdict on what the lines behind the first say, or why there is none.
-fn judged_by<R: Logged + Drop>(heap: Global, lines: &mut Lines) -> Result<YesNo, Stop> {
+// Whether some event leaves a letter of the rule in doubt.
+fn doubted<R: Reading>(bound: &BoundRule<R>, trace: &[u32]) -> bool {
+    for code in trace {
+        if bound.in_doubt(*code) {
+            return true;
+        }
+    }
+    false
+}
+
+// The verdict on what the lines behind the first say, or why there is none. Only doubt asks for the scale of three.
+fn judged_by<R: Logged + Drop>(heap: Global, lines: &mut Lines) -> Result<ThreeWay, Stop> {
     let reading: R = names_line(heap, lines)?;
     let rule = rule_line(lines)?;
     BoundRule::check(&rule, &reading)?;
     let bound = BoundRule::new(rule, reading);
-    let trace = events(heap, lines, &bound)?;
-    verdict(heap, &bound, trace.as_slice())
+    let trace = events(heap, lines, bound.reading())?;
+    if doubted(&bound, trace.as_slice()) {
+        return verdict::<ThreeWay, R>(heap, &bound, trace.as_slice());
+    }
+    let verdict = verdict::<YesNo, R>(heap, &bound, trace.as_slice())?;
+    Ok(verdict.three_way())
 }
 
 // The same for all lines.
-fn judged(heap: Global, lines: &mut Lines) -> Result<YesNo, Stop> {
+fn judged(heap: Global, lines: &mut Lines) -> Result<ThreeWay, Stop> {
     match reading_line(lines)? {
         Kind::Words => judged_by::<Words>(heap, lines),
         Kind::Panel => judged_by::<Panel>(heap, lines),

@@ -1,5 +1,6 @@
 -- The scale of three verdicts, in rising order broken, unclear, kept. Assumes nothing.
 use Rattle.verdicts.specs.Scale.{Ops}
+use Rattle.verdicts.specs.declared.scale.YesNo.{YesNo}
 use Rattle.verdicts.specs.declared.three_way.ThreeWay.{ThreeWay}
 use Rattle.verdicts.specs.declared.three_way.ThreeWay.the-variants.{Broken, Unclear, Kept}
 
@@ -25,3 +26,8 @@ turned Kept = Broken
 
 abbrev pub threeWay : Ops ThreeWay
 threeWay = record { bottom = Broken; top = Kept; meet = lower; join = higher; negate = turned }
+
+-- a verdict of two, on the scale of three
+abbrev pub inThree : YesNo → ThreeWay
+inThree YesNo.Broken = Broken
+inThree YesNo.Kept = Kept

@@ -1,8 +1,10 @@
 // The scale of three verdicts, for letters that may be in doubt.
 ghost use mathlib.Core.Bool.{true};
-ghost use Rattle.verdicts.specs.ThreeWay.{threeWay};
+ghost use mathlib.Core.Path.{_≡_};
+ghost use Rattle.verdicts.specs.ThreeWay.{threeWay, inThree};
 ghost use Rattle.verdicts.specs.declared.three_way.ThreeWay.the-variants.{Unclear};
 use crate::scale::Scale;
+use crate::scale::YesNo;
 
 // Whether a rule is kept, where that can be told. In rising order.
 #[derive(Clone, Copy, PartialEq, Eq, Debug)]
@@ -10,6 +12,18 @@ pub enum ThreeWay {
     Broken,
     Unclear,
     Kept,
+}
+
+impl YesNo {
+    // The same verdict on the scale of three.
+    pub fn three_way(self) -> ThreeWay
+        ensures { λ r. ⌜ r ≡ inThree self ⌝ }
+    {
+        match self {
+            YesNo::Broken => ThreeWay::Broken,
+            YesNo::Kept => ThreeWay::Kept,
+        }
+    }
 }
 
 pub impl Scale for ThreeWay as ThreeWayScale {
