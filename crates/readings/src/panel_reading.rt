@@ -37,6 +37,20 @@ impl Panel {
             list: NameList::new(names, NAMES),
         }
     }
+
+    // The places that are on wherever those of the set are: each has a name's number that a place of the set has.
+    fn spread(&self, names: &[u8], set: u8) -> u8
+        ensures { λ r. ⌜ r ≡ spreadOf (length (spellings (now (self .entry) .list))) (now (names .entry)) set ⌝ }
+    {
+        let mut on: u16 = 0;
+        let mut worth: u16 = 1;
+        for i in 0..names.len().min(MOST) {
+            let name = names[i];
+            on += gained(self.list.has(name) & is_asked(names, set, name), worth);
+            worth *= 2;
+        }
+        on as u8
+    }
 }
 
 // Whether bit `i` is set.
@@ -47,6 +61,7 @@ fn has_bit(bits: u32, i: usize) -> bool
     bits >> i & 1 == 1
 }
 
+// What an answer and a level say. A level that was not answered says nothing.
 fn told_mark(answer: bool, level: bool) -> Mark
     ensures { λ r. ⌜ r ≡ told answer level ⌝ }
 {
@@ -69,22 +84,6 @@ fn is_asked(names: &[u8], set: u8, name: u8) -> bool
         }
     }
     false
-}
-
-impl Panel {
-    // The places that are on wherever those of the set are: their number is a name, and stands at a place of the set.
-    fn spread(&self, names: &[u8], set: u8) -> u8
-        ensures { λ r. ⌜ r ≡ spreadOf (length (spellings (now (self .entry) .list))) (now (names .entry)) set ⌝ }
-    {
-        let mut on: u16 = 0;
-        let mut worth: u16 = 1;
-        for i in 0..names.len().min(MOST) {
-            let name = names[i];
-            on += gained(self.list.has(name) & is_asked(names, set, name), worth);
-            worth *= 2;
-        }
-        on as u8
-    }
 }
 
 pub impl Reading for Panel as PanelReading {

@@ -39,10 +39,13 @@ fn in_doubt(mark: Mark) -> bool
 pub trait Reading {
     ghost meaning: { Self → Meaning };
 
+    // There is a code.
     law some: { (s : Self) → 0 < meaning s .codes };
 
+    // There are at most 64 names.
     law few: { (s : Self) → meaning s .names ≤ 64 };
 
+    // What is found is a name's number.
     law numbered: { (s : Self) (n : List ℕ) (k : ℕ) → meaning s .finds n ≡ Some k → (1 ≤ k) × (k ≤ meaning s .names) };
 
     // How many codes there are, from 0 on.
