@@ -4,6 +4,7 @@ use mathlib.Core.Logic.{inl, inr}
 use native.Mathlib.Omega.{arith}
 use Rattle.std.proofs.shelf.Results.{err-from-errBy}
 use Rattle.rules.specs.Descent.{Parsed}
+use Rattle.rules.specs.Names.{namesIn}
 use Rattle.rules.specs.Rest.{rankAt}
 use Rattle.rules.proofs.Fronts.{is-sign, shorter-between, shorter-before, shorter-open}
 use Rattle.rules.proofs.Levels.{behind-between, name-parsed, truth-parsed, before-parsed, group-parsed, start, rank-next, no-rank, Side, side-shorter, turn-on}
@@ -40,7 +41,7 @@ level-returns-in-Break-room t c =
     let so = c .loop-m .inv (c .args .table .now) (start (c .in-Continue-left .ensures tt)) in
     let e = is-sign (c .in-Continue-m .ensures tt) (c .in-Between .is) in
     let p = err-from-errBy (c .from-residual-in-Break-room .result) (c .from-residual-in-Break-room .ensures .1) in
-    rw (p .1, p .2) (later (so .parsed .scans) (full-between _ _ _ _ _ e (c .in-Break-room .ensures tt)))
+    rw (p .1, p .2) (later (so .parsed .scans) (full-between (c .loop-m .rest .now) (c .in-Continue-m .after .now) (c .args .depth) (c .loop-m .table .size + c .args .pending) (namesIn (c .loop-m .table)) e (c .in-Break-room .ensures tt)))
 
 pub level-level-requires : need.level-level-requires
 level-level-requires t c κs =
@@ -99,17 +100,17 @@ operand-returns-in-Break-m t c =
 pub operand-returns-in-Break-room : need.operand-returns-in-Break-room
 operand-returns-in-Break-room t c =
     let p = err-from-errBy (c .from-residual-in-Break-room .result) (c .from-residual-in-Break-room .ensures .1) in
-    rw (p .1, p .2) (full-name _ _ _ _ _ (is-sign (c .in-Continue-m .ensures tt) (c .in-Name .is)) (c .in-Break-room .ensures tt))
+    rw (p .1, p .2) (full-name (c .args .s .now) (c .in-Continue-m .rest .now) (c .args .depth) (c .args .table .now .size + c .args .pending) (namesIn (c .args .table .now)) (is-sign (c .in-Continue-m .ensures tt) (c .in-Name .is)) (c .in-Break-room .ensures tt))
 
 pub operand-returns-in-Break-room-2 : need.operand-returns-in-Break-room-2
 operand-returns-in-Break-room-2 t c =
     let p = err-from-errBy (c .from-residual-in-Break-room-2 .result) (c .from-residual-in-Break-room-2 .ensures .1) in
-    rw (p .1, p .2) (full-truth _ _ _ _ _ (is-sign (c .in-Continue-m .ensures tt) (c .in-Truth .is)) (c .in-Break-room-2 .ensures tt))
+    rw (p .1, p .2) (full-truth (c .args .s .now) (c .in-Continue-m .rest .now) (c .args .depth) (c .args .table .now .size + c .args .pending) (namesIn (c .args .table .now)) (is-sign (c .in-Continue-m .ensures tt) (c .in-Truth .is)) (c .in-Break-room-2 .ensures tt))
 
 pub operand-returns-in-Break-room-3 : need.operand-returns-in-Break-room-3
 operand-returns-in-Break-room-3 t c =
     let p = err-from-errBy (c .from-residual-in-Break-room-3 .result) (c .from-residual-in-Break-room-3 .ensures .1) in
-    rw (p .1, p .2) (full-before _ _ _ _ _ (is-sign (c .in-Continue-m .ensures tt) (c .in-Before .is)) (c .in-Break-room-3 .ensures tt))
+    rw (p .1, p .2) (full-before (c .args .s .now) (c .in-Continue-m .rest .now) (c .args .depth) (c .args .table .now .size + c .args .pending) (namesIn (c .args .table .now)) (is-sign (c .in-Continue-m .ensures tt) (c .in-Before .is)) (c .in-Break-room-3 .ensures tt))
 
 pub operand-operand-requires : need.operand-operand-requires
 operand-operand-requires t c κs =
@@ -118,10 +119,10 @@ operand-operand-requires t c κs =
 pub operand-returns-in-Break-a : need.operand-returns-in-Break-a
 operand-returns-in-Break-a t c =
     let p = err-from-errBy (c .from-residual-in-Break-a .result) (c .from-residual-in-Break-a .ensures .1) in
-    rw (p .1, p .2) (behind-before _ _ _ _ _ _ (is-sign (c .in-Continue-m .ensures tt) (c .in-Before .is)) (c .in-Continue-room-3 .ensures tt) (c .in-Break-a .ensures tt))
+    rw (p .1, p .2) (behind-before (c .args .s .now) (c .in-Continue-m .rest .now) (c .args .depth) (c .args .table .now .size) (namesIn (c .args .table .now)) (c .args .pending) (is-sign (c .in-Continue-m .ensures tt) (c .in-Before .is)) (c .in-Continue-room-3 .ensures tt) (c .in-Break-a .ensures tt))
 
 pub operand-returns-then-depth-eq-DEPTH : need.operand-returns-then-depth-eq-DEPTH
-operand-returns-then-depth-eq-DEPTH t c = too-deep _ _ _ _ _ (is-sign (c .in-Continue-m .ensures tt) (c .in-Open .is)) (omega arith) (c .stop-at .ensures)
+operand-returns-then-depth-eq-DEPTH t c = too-deep (c .args .s .now) (c .in-Continue-m .rest .now) (c .args .depth) (c .args .table .now .size + c .args .pending) (namesIn (c .args .table .now)) (is-sign (c .in-Continue-m .ensures tt) (c .in-Open .is)) (omega arith) (c .stop-at .ensures)
 
 pub operand-level-requires : need.operand-level-requires
 operand-level-requires t c κs = omega (arith, shorter-open (c .args .s .now) (is-sign (c .in-Continue-m .ensures tt) (c .in-Open .is)))
@@ -129,17 +130,17 @@ operand-level-requires t c κs = omega (arith, shorter-open (c .args .s .now) (i
 pub operand-returns-in-Break-a-2 : need.operand-returns-in-Break-a-2
 operand-returns-in-Break-a-2 t c =
     let p = err-from-errBy (c .from-residual-in-Break-a-2 .result) (c .from-residual-in-Break-a-2 .ensures .1) in
-    rw (p .1, p .2) (behind-open _ _ _ _ _ (is-sign (c .in-Continue-m .ensures tt) (c .in-Open .is)) (omega arith) (c .in-Break-a-2 .ensures tt))
+    rw (p .1, p .2) (behind-open (c .args .s .now) (c .in-Continue-m .rest .now) (c .args .depth) (c .args .table .now .size + c .args .pending) (namesIn (c .args .table .now)) (is-sign (c .in-Continue-m .ensures tt) (c .in-Open .is)) (omega arith) (c .in-Break-a-2 .ensures tt))
 
 pub operand-returns-in-Break-after : need.operand-returns-in-Break-after
 operand-returns-in-Break-after t c =
     let p = err-from-errBy (c .from-residual-in-Break-after .result) (c .from-residual-in-Break-after .ensures .1) in
-    rw (p .1, p .2) (behind-open _ _ _ _ _ (is-sign (c .in-Continue-m .ensures tt) (c .in-Open .is)) (omega arith) (later (c .in-Continue-a-2 .ensures tt .0 .scans) (at-once (c .in-Break-after .ensures tt _))))
+    rw (p .1, p .2) (behind-open (c .args .s .now) (c .in-Continue-m .rest .now) (c .args .depth) (c .args .table .now .size + c .args .pending) (namesIn (c .args .table .now)) (is-sign (c .in-Continue-m .ensures tt) (c .in-Open .is)) (omega arith) (later (c .in-Continue-a-2 .ensures tt .0 .scans) (at-once (c .in-Break-after .ensures tt _))))
 
 pub operand-returns-in-Break-i : need.operand-returns-in-Break-i
 operand-returns-in-Break-i t c =
     let p = err-from-errBy (c .from-residual-in-Break-i .result) (c .from-residual-in-Break-i .ensures .1) in
-    rw (p .1, p .2) (many-names _ _ _ _ _ (is-sign (c .in-Continue-m .ensures tt) (c .in-Name .is)) (c .in-Continue-room .ensures tt) (c .in-Break-i .ensures tt))
+    rw (p .1, p .2) (many-names (c .args .s .now) (c .in-Continue-m .rest .now) (c .args .depth) (c .args .table .now .size + c .args .pending) (namesIn (c .args .table .now)) (is-sign (c .in-Continue-m .ensures tt) (c .in-Name .is)) (c .in-Continue-room .ensures tt) (c .in-Break-i .ensures tt))
 
 pub operand-returns-in-Continue-i : need.operand-returns-in-Continue-i
 operand-returns-in-Continue-i t c =
@@ -159,4 +160,4 @@ operand-returns-in-Continue-after t c =
 
 pub operand-returns-in-rest : need.operand-returns-in-rest
 operand-returns-in-rest t c =
-    no-operand _ _ _ _ _ (c .in-Continue-m .ensures tt) (c .stop-at-in-rest .ensures) (c .in-rest .not-Before) (c .in-rest .not-Truth) (c .in-rest .not-Name) (c .in-rest .not-Open)
+    no-operand (c .args .s .now) (c .in-Continue-m .rest .now) (c .args .depth) (c .args .table .now .size + c .args .pending) (namesIn (c .args .table .now)) (c .in-Continue-m .ensures tt) (c .stop-at-in-rest .ensures) (c .in-rest .not-Before) (c .in-rest .not-Truth) (c .in-rest .not-Name) (c .in-rest .not-Open)
