@@ -34,35 +34,46 @@ letter n = leaf (record { name = name; at = n })
 
 pub all-shown : AllShown table
 unfolding signs lex sameName findIn first
-all-shown =
-    (record {
-      tree = before Unary.Always (truth false);
-      says = record { row = placed (Sign.Before Unary.Always) 0 ∷ placed (Sign.Truth false) 2 ∷ []; spells = refl; derives = whole (a-before a-truth) };
-      answers = refl;
-    },
-    (record {
+all-shown = (
+  record {
+    tree = before Unary.Always (truth false);
+    says = record { row = placed (Sign.Before Unary.Always) 0 ∷ placed (Sign.Truth false) 2 ∷ []; spells = refl; derives = whole (a-before a-truth) };
+    answers = refl;
+  },
+  (
+    record {
       tree = before Unary.Not (letter 1);
       says = record { row = placed (Sign.Before Unary.Not) 0 ∷ placed (Sign.Name name) 1 ∷ []; spells = refl; derives = whole (a-before a-name) };
       answers = refl;
     },
-    (record {
-      tree = before Unary.Eventually (truth true);
-      says = record { row = placed (Sign.Before Unary.Eventually) 0 ∷ placed (Sign.Truth true) 2 ∷ []; spells = refl; derives = whole (a-before a-truth) };
-      answers = refl;
-    },
-    (record {
-      tree = letter 0;
-      says = record { row = placed (Sign.Name name) 0 ∷ []; spells = refl; derives = whole a-name };
-      answers = refl;
-    },
-    (record {
-      tree = between Binary.Or (letter 0) (before Unary.Not (letter 6));
-      says = record { row = placed (Sign.Name name) 0 ∷ placed (Sign.Between Binary.Or) 2 ∷ placed (Sign.Before Unary.Not) 5 ∷ placed (Sign.Name name) 6 ∷ []; spells = refl; derives = up (up (to-left 2 refl refl (up (side a-name)) (side (a-before a-name)))) };
-      answers = refl;
-    },
-    (record {
-      tree = between Binary.Or (letter 0) (truth true);
-      says = record { row = placed (Sign.Name name) 0 ∷ placed (Sign.Between Binary.Or) 2 ∷ placed (Sign.Truth true) 5 ∷ []; spells = refl; derives = up (up (to-left 2 refl refl (up (side a-name)) (side a-truth))) };
-      answers = refl;
-    },
-    tt))))))
+    (
+      record {
+        tree = before Unary.Eventually (truth true);
+        says = record { row = placed (Sign.Before Unary.Eventually) 0 ∷ placed (Sign.Truth true) 2 ∷ []; spells = refl; derives = whole (a-before a-truth) };
+        answers = refl;
+      },
+      (
+        record {
+          tree = letter 0;
+          says = record { row = placed (Sign.Name name) 0 ∷ []; spells = refl; derives = whole a-name };
+          answers = refl;
+        },
+        (
+          record {
+            tree = between Binary.Or (letter 0) (before Unary.Not (letter 6));
+            says = record { row = placed (Sign.Name name) 0 ∷ placed (Sign.Between Binary.Or) 2 ∷ placed (Sign.Before Unary.Not) 5 ∷ placed (Sign.Name name) 6 ∷ []; spells = refl; derives = up (up (to-left 2 refl refl (up (side a-name)) (side (a-before a-name)))) };
+            answers = refl;
+          },
+          (
+            record {
+              tree = between Binary.Or (letter 0) (truth true);
+              says = record { row = placed (Sign.Name name) 0 ∷ placed (Sign.Between Binary.Or) 2 ∷ placed (Sign.Truth true) 5 ∷ []; spells = refl; derives = up (up (to-left 2 refl refl (up (side a-name)) (side a-truth))) };
+              answers = refl;
+            },
+            tt,
+          ),
+        ),
+      ),
+    ),
+  ),
+)
