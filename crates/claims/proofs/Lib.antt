@@ -1,2 +1,4 @@
 pub mod Laws
 pub mod Right
+pub mod Accepted
+pub mod Sound
