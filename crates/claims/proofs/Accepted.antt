@@ -7,17 +7,18 @@ use native.Mathlib.Omega.{arith}
 use lib.Dec.{eqb, leb, ltb}
 use lib.ListN.{length}
 use mathlib.Core.Logic.{⊎-elim}
-use Rattle.std.proofs.shelf.Tests.{and-parts, and-from, cases-eq, cond-true, eq-eqb, eqb-true, le-leb, leb-true, lt-ltb, ltb-true}
+use Rattle.std.proofs.shelf.Tests.{and-parts, and-from, cases-eq, cond-true, cond-false, le-ltb, eq-eqb, eqb-true, le-leb, leb-true, lt-ltb, ltb-true}
 use Rattle.std.specs.declared.option.Option.{Option}
 use Rattle.std.specs.declared.option.Option.the-variants.{Some, None}
 use Rattle.std.specs.declared.result.Result.the-variants.{Ok, Err}
 use Rattle.rules.specs.First.{answer, first, orElse}
 use Rattle.rules.specs.Rules.{nodeCount}
 use Rattle.rules.specs.declared.fault.Fault.{Fault}
-use Rattle.rules.specs.declared.fault.Fault.the-variants.{BadEnd, Unsupported}
+use Rattle.rules.specs.declared.fault.Fault.the-variants.{ManyEvents, ShortBuffer, BadEnd, Unsupported}
 use Rattle.verdicts.specs.declared.scale.YesNo.{YesNo}
 use Rattle.claims.specs.Ways.{Case, waysAt, verdictOf}
-use Rattle.claims.specs.Claims.{claimAt, sameSign, says, cites, meets, placed, supported, lastOf, rooted, unheard, badEnd, unsupportedAt, unsupported, refusal, checked}
+use Rattle.claims.specs.Claims.{claimAt, sameSign, says, cites, meets, placed, supported, lastOf, rooted, unheard, wrong, badEnd, unsupportedAt, unsupported, refusal, checked}
+use Rattle.claims.specs.Written.{claimCount, unwritten}
 use Rattle.claims.specs.declared.claim.Claim.{Claim}
 use Rattle.claims.specs.declared.claim.Sign.{Sign}
 use Rattle.claims.specs.declared.claim.Sign.the-variants.{Holds, Fails}
@@ -56,7 +57,7 @@ passed false x e = let z : _≡_ {A = ℕ} 0 1 = cc in absurd (omega arith)
 -- the parts of a list that is accepted with a verdict
 pub record Accepted (k : Case) (cs : List Claim) (v : YesNo) : Type 0 where
   pub heard : unheard k ≡ None
-  pub ends : rooted (k .rule) cs ≡ true
+  pub ends : rooted (nodeCount (k .rule)) cs ≡ true
   pub each : (i : ℕ) → i < length cs → supported k cs i (claimAt cs i) ≡ true
   pub tells : verdictOf (lastOf cs .sign) ≡ v
 
@@ -64,11 +65,11 @@ pub accepted-parts : (k : Case) (cs : List Claim) (v : YesNo) → checked k cs �
 unfolding refusal unsupported
 accepted-parts k cs v e =
     let a = answer-none (refusal k cs) (verdictOf (lastOf cs .sign)) v e in
-    let b = or-none (unheard k) (orElse (badEnd (k .rule) cs) (unsupported k cs)) (a .0) in
-    let c = or-none (badEnd (k .rule) cs) (unsupported k cs) (b .1) in
+    let b = or-none (unheard k) (orElse (badEnd (nodeCount (k .rule)) cs) (unsupported k cs)) (a .0) in
+    let c = or-none (badEnd (nodeCount (k .rule)) cs) (unsupported k cs) (b .1) in
     record {
       heard = b .0;
-      ends = passed (rooted (k .rule) cs) (BadEnd (length cs)) (c .0);
+      ends = passed (rooted (nodeCount (k .rule)) cs) (BadEnd (length cs)) (c .0);
       each = λ i h. passed (supported k cs i (claimAt cs i)) (Unsupported (i + 1)) (none-each (unsupportedAt k cs) (length cs) (c .1) i h);
       tells = a .1;
     }
@@ -76,10 +77,46 @@ accepted-parts k cs v e =
 pub accepted-all : (k : Case) (cs : List Claim) (v : YesNo) → Accepted k cs v → checked k cs ≡ Ok v
 unfolding refusal unsupported
 accepted-all k cs v a =
-    let end : badEnd (k .rule) cs ≡ None = cond-true (rooted (k .rule) cs) None (Some (BadEnd (length cs))) (a .ends) in
+    let end : badEnd (nodeCount (k .rule)) cs ≡ None = cond-true (rooted (nodeCount (k .rule)) cs) None (Some (BadEnd (length cs))) (a .ends) in
     let every : unsupported k cs ≡ None = none-all (unsupportedAt k cs) (length cs) (λ i h. cond-true (supported k cs i (claimAt cs i)) None (Some (Unsupported (i + 1))) (a .each i h)) in
     let none : refusal k cs ≡ None = ap₂ orElse (a .heard) (ap₂ orElse end every) in
     ap (λ f. answer f (verdictOf (lastOf cs .sign))) none ∙ ap Ok (a .tells)
+
+-- why a list is refused, reason by reason
+module _ (k : Case) (cs : List Claim) where
+  pub many-events : 4095 < length (k .trace) → refusal k cs ≡ Some ManyEvents
+  unfolding refusal unheard
+  many-events h = ap (λ f. orElse f (orElse (badEnd (nodeCount (k .rule)) cs) (unsupported k cs))) (cond-true (ltb 4095 (length (k .trace))) _ _ (lt-ltb 4095 (length (k .trace)) h))
+
+  pub few-events : length (k .trace) ≤ 4095 → unheard k ≡ wrong k
+  unfolding unheard
+  few-events h = cond-false (ltb 4095 (length (k .trace))) _ _ (le-ltb 4095 (length (k .trace)) h)
+
+  pub wrong-event : (f : Fault) → unheard k ≡ Some f → refusal k cs ≡ Some f
+  unfolding refusal
+  wrong-event f e = ap (λ a. orElse a (orElse (badEnd (nodeCount (k .rule)) cs) (unsupported k cs))) e
+
+  pub bad-end : unheard k ≡ None → rooted (nodeCount (k .rule)) cs ≡ false → refusal k cs ≡ Some (BadEnd (length cs))
+  unfolding refusal
+  bad-end heard e = ap₂ (λ a b. orElse a (orElse b (unsupported k cs))) heard (cond-false (rooted (nodeCount (k .rule)) cs) _ _ e)
+
+  pub by-claims : unheard k ≡ None → rooted (nodeCount (k .rule)) cs ≡ true → refusal k cs ≡ unsupported k cs
+  unfolding refusal
+  by-claims heard e = ap₂ (λ a b. orElse a (orElse b (unsupported k cs))) heard (cond-true (rooted (nodeCount (k .rule)) cs) _ _ e)
+
+-- why the writing is refused, with so much room
+module _ (k : Case) (room : ℕ) where
+  pub many-to-write : 4095 < length (k .trace) → unwritten k room ≡ Some ManyEvents
+  unfolding unwritten
+  many-to-write h = cond-true (ltb 4095 (length (k .trace))) _ _ (lt-ltb 4095 (length (k .trace)) h)
+
+  pub short-room : length (k .trace) ≤ 4095 → room < claimCount k → unwritten k room ≡ Some (ShortBuffer (claimCount k))
+  unfolding unwritten
+  short-room few h = cond-false (ltb 4095 (length (k .trace))) _ _ (le-ltb 4095 (length (k .trace)) few) ∙ cond-true (ltb room (claimCount k)) _ _ (lt-ltb room (claimCount k) h)
+
+  pub by-event : length (k .trace) ≤ 4095 → claimCount k ≤ room → unwritten k room ≡ wrong k
+  unfolding unwritten
+  by-event few h = cond-false (ltb 4095 (length (k .trace))) _ _ (le-ltb 4095 (length (k .trace)) few) ∙ cond-false (ltb room (claimCount k)) _ _ (le-ltb room (claimCount k) h)
 
 same-sign : (s r : Sign) → sameSign s r ≡ true → s ≡ r
 same-sign Holds Holds h = refl

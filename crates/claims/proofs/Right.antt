@@ -1,6 +1,6 @@
 -- The rules of support are right: by the values of the nodes, some way is given just where the sign says the node's value.
 -- Assumes nothing.
-use mathlib.Core.Path.{_≡_, refl, sym, ap, ap₂, _∙_}
+use mathlib.Core.Path.{_≡_, refl, sym, ap, ap₂, subst, _∙_}
 use mathlib.Core.Bool.{Bool, true, false, _&&_, _||_, cond}
 use mathlib.Core.List.{List, [], _∷_, map}
 use Prim.Native.Nat.{ℕ, _+_, _<_, _≤_}
@@ -13,6 +13,9 @@ use Rattle.rules.specs.Tree.{Tree, treeOf, decode, nodeAt}
 use Rattle.rules.specs.declared.node.Unary.{Unary}
 use Rattle.rules.specs.declared.node.Binary.{Binary}
 use Rattle.rules.specs.declared.node.Node.{Node}
+use Rattle.rules.specs.declared.rule.Rule.{Rule}
+use Rattle.readings.specs.Binding.{numbersOf}
+use Rattle.readings.specs.declared.bound.BoundRule.{BoundRule}
 use Rattle.readings.specs.Meaning.{Meaning, markOf}
 use Rattle.verdicts.specs.Meaning.{means, letter, unary, binary, rows}
 use Rattle.verdicts.specs.Step.{Known, unaryEnd, unaryRow, binaryEnd, binaryRow}
@@ -24,7 +27,7 @@ use Rattle.verdicts.proofs.Lift.{decode-step}
 use Rattle.verdicts.proofs.Recur.{unary-end, unary-row, binary-end, binary-row}
 use Rattle.verdicts.proofs.Rules.{nodes-ordered, nodes-lettered}
 use Rattle.verdicts.proofs.Traced.{rows-laid}
-use Rattle.claims.specs.Ways.{Case, other, fact, turned, only, all, any, alike, comes, beforeWays, betweenWays, ways, isEvent, letterAt, waysAt, agree, isTrue, given}
+use Rattle.claims.specs.Ways.{Case, caseOf, other, fact, turned, only, all, any, alike, comes, beforeWays, betweenWays, ways, isEvent, letterAt, waysAt, agree, isTrue, given}
 use Rattle.claims.specs.Claims.{meant, recordOf}
 use Rattle.claims.specs.declared.claim.Sign.{Sign}
 use Rattle.claims.specs.declared.claim.Sign.the-variants.{Holds, Fails}
@@ -206,6 +209,25 @@ module _ (g : ℕ → Tree ℕ) (at : ℕ → List (List YesNo)) (k q j : ℕ) (
 pub record Bound (k : Case) : Type 0 where
   pub numbered : length (k .numbers) ≡ letterCount (k .rule)
   pub noded : length (nodesOf (k .rule)) ≡ nodeCount (k .rule)
+
+-- a rule and its nodes, as a call gives them
+module _ (r s : Rule) (ns : List Node) (rule : s ≡ r) (same : ns ≡ nodesOf s) (long : length ns ≡ nodeCount s) where
+  nodes-as : ns ≡ nodesOf r
+  nodes-as = same ∙ ap nodesOf rule
+
+  pub noded-as : length (nodesOf r) ≡ nodeCount r
+  noded-as = sym (ap length nodes-as) ∙ long ∙ ap nodeCount rule
+
+  -- a node's letter is one of the rule's
+  pub letter-known : (j l : ℕ) → j < nodeCount r → nodeAt ns j ≡ Node.Letter l → l < letterCount r
+  letter-known j l low is =
+      let within : j < length (nodesOf r) = omega (arith, noded-as) in
+      subst (Known (letterCount r)) (sym (ap (λ xs. nodeAt xs j) nodes-as) ∙ is) (nodes-lettered r noded-as j within)
+
+pub bound-as : {R : Type 0} (means : R → Meaning) (b : BoundRule R) (cs ns : List ℕ) (r : Rule) (nodes : List Node) →
+    r ≡ b .rule → nodes ≡ nodesOf r → length nodes ≡ nodeCount r → ns ≡ numbersOf b → length ns ≡ letterCount (b .rule) → Bound (caseOf means b cs)
+bound-as means b cs ns r nodes rule same long numbers each =
+    record { numbered = sym (ap length numbers) ∙ each; noded = noded-as (b .rule) r nodes rule same long }
 
 module _ (k : Case) (ok : Bound k) where
   abbrev row : ℕ → List YesNo

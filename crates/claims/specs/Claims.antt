@@ -14,7 +14,6 @@ use Rattle.rules.specs.Rules.{nodeCount, nodesOf, treeOfRule}
 use Rattle.rules.specs.Tree.{decode, nodeAt}
 use Rattle.rules.specs.declared.fault.Fault.{Fault}
 use Rattle.rules.specs.declared.fault.Fault.the-variants.{ManyEvents, BadEnd, Unsupported}
-use Rattle.rules.specs.declared.rule.Rule.{Rule}
 use Rattle.verdicts.specs.Meaning.{means}
 use Rattle.verdicts.specs.Outcome.{recorded}
 use Rattle.verdicts.specs.Valuation.{laid, wrongEvent}
@@ -68,20 +67,24 @@ placed n m c = ltb 0 (c .place) && leb (c .place) (n + 1) && ltb 0 (c .node) && 
 abbrev pub supported : Case → List Claim → ℕ → Claim → Bool
 supported k cs i c = placed (length (k .trace)) (nodeCount (k .rule)) c && meets cs i c (waysAt k (c .place - 1) (c .node - 1) (c .sign))
 
--- the last claim is on the whole rule at the first place
 abbrev pub lastOf : List Claim → Claim
 lastOf cs = claimAt cs (length cs - 1)
 
-abbrev pub rooted : Rule → List Claim → Bool
-rooted r cs = ltb 0 (length cs) && eqb (lastOf cs .place) 1 && eqb (lastOf cs .node) (nodeCount r)
+-- the last claim is on the last of m nodes, the whole rule, at the first place
+abbrev pub rooted : ℕ → List Claim → Bool
+rooted m cs = ltb 0 (length cs) && eqb (lastOf cs .place) 1 && eqb (lastOf cs .node) m
 
--- what is wrong with a trace of claims: its length, or its first event that has a high code or is in doubt
+-- what is wrong with the first wrong event: a high code, or doubt, since claims take none
+abbrev pub wrong : Case → Option Fault
+wrong k = first (length (k .trace)) (wrongEvent (k .meaning) false (k .numbers) (k .trace))
+
+-- what is wrong with a trace
 unfoldable pub unheard : Case → Option Fault
-unheard k = cond (ltb 4095 (length (k .trace))) (Some ManyEvents) (first (length (k .trace)) (wrongEvent (k .meaning) false (k .numbers) (k .trace)))
+unheard k = cond (ltb 4095 (length (k .trace))) (Some ManyEvents) (wrong k)
 
 -- what is wrong with the end of a list of claims
-abbrev pub badEnd : Rule → List Claim → Option Fault
-badEnd r cs = cond (rooted r cs) None (Some (BadEnd (length cs)))
+abbrev pub badEnd : ℕ → List Claim → Option Fault
+badEnd m cs = cond (rooted m cs) None (Some (BadEnd (length cs)))
 
 -- what is wrong with the claim at index i
 abbrev pub unsupportedAt : Case → List Claim → ℕ → Option Fault
@@ -92,7 +95,7 @@ unsupported k cs = first (length cs) (unsupportedAt k cs)
 
 -- WHY A LIST OF CLAIMS IS REFUSED
 unfoldable pub refusal : Case → List Claim → Option Fault
-refusal k cs = orElse (unheard k) (orElse (badEnd (k .rule) cs) (unsupported k cs))
+refusal k cs = orElse (unheard k) (orElse (badEnd (nodeCount (k .rule)) cs) (unsupported k cs))
 
 -- WHAT A CHECK ANSWERS
 abbrev pub checked : Case → List Claim → Result YesNo Fault

@@ -1,6 +1,6 @@
 -- Which claims are written, where, and why their writing is refused. Assumes nothing.
 use mathlib.Core.Path.{_≡_}
-use mathlib.Core.Bool.{Bool, false, cond}
+use mathlib.Core.Bool.{Bool, cond}
 use mathlib.Core.List.{List}
 use Prim.Native.Nat.{ℕ, _+_, _-_, _*_, _/_, _%_, _≤_, _<_}
 use lib.Dec.{ltb}
@@ -8,15 +8,13 @@ use lib.ListN.{length, take, drop}
 use Rattle.std.specs.declared.option.Option.{Option}
 use Rattle.std.specs.declared.option.Option.the-variants.{Some, None}
 use Rattle.std.specs.declared.result.Result.the-variants.{Ok}
-use Rattle.rules.specs.First.{first}
 use Rattle.rules.specs.Rules.{nodeCount}
 use Rattle.rules.specs.declared.fault.Fault.{Fault}
 use Rattle.rules.specs.declared.fault.Fault.the-variants.{ManyEvents, ShortBuffer}
-use Rattle.verdicts.specs.Valuation.{wrongEvent}
 use Rattle.verdicts.specs.declared.scale.YesNo.{YesNo}
 use Rattle.verdicts.specs.declared.scale.YesNo.the-variants.{Broken, Kept}
 use Rattle.claims.specs.Ways.{Case, waysAt, verdictOf, signOf, stands, given}
-use Rattle.claims.specs.Claims.{claimAt, meant, verdict, checked}
+use Rattle.claims.specs.Claims.{claimAt, meant, verdict, checked, wrong}
 use Rattle.claims.specs.declared.claim.Claim.{Claim}
 use Rattle.claims.specs.declared.claim.Sign.{Sign}
 use Rattle.claims.specs.declared.claim.Sign.the-variants.{Holds, Fails}
@@ -96,7 +94,7 @@ OfWays P (Either g h) = OfGrounds P g × OfGrounds P h
 -- WHY THE WRITING IS REFUSED, with room for so many claims
 unfoldable pub unwritten : Case → ℕ → Option Fault
 unwritten k room =
-    cond (ltb 4095 (length (k .trace))) (Some ManyEvents) (cond (ltb room (claimCount k)) (Some (ShortBuffer (claimCount k))) (first (length (k .trace)) (wrongEvent (k .meaning) false (k .numbers) (k .trace))))
+    cond (ltb 4095 (length (k .trace))) (Some ManyEvents) (cond (ltb room (claimCount k)) (Some (ShortBuffer (claimCount k))) (wrong k))
 
 -- the room after the claims were written into it: each at its number, what lies past them is left, and a check accepts
 -- them with what the rule means

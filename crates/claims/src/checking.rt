@@ -16,7 +16,6 @@ use crate::support::ways;
 use readings::BoundRule;
 use readings::Reading;
 use rules::Fault;
-use rules::Rule;
 use verdicts::YesNo;
 use verdicts::YesNoScale;
 use verdicts::check_events;
@@ -127,15 +126,15 @@ fn check_support<R: Reading>(
     Ok(())
 }
 
-// Whether the last claim is on the whole rule at the first place.
-fn ends_at_root(rule: &Rule, claims: &[Claim]) -> bool
-    ensures { λ r. ⌜ r ≡ rooted (now (rule .entry)) (now (claims .entry)) ⌝ }
+// Whether the last claim is on the last of `m` nodes, the whole rule, at the first place.
+fn ends_at_root(m: usize, claims: &[Claim]) -> bool
+    ensures { λ r. ⌜ r ≡ rooted m (now (claims .entry)) ⌝ }
 {
     if claims.len() == 0 {
         return false;
     }
     let last = claims[claims.len() - 1];
-    (last.place == 1) & (last.node as usize == rule.nodes().len())
+    (last.place == 1) & (last.node as usize == m)
 }
 
 // What a list of claims shows that the bound rule comes to on a trace.
@@ -148,11 +147,13 @@ pub fn check<R: Reading>(
     ensures sound { λ _. ⌜ Sound (caseOf meaning (now (bound .entry)) (now (trace .entry))) (now (claims .entry)) ⌝ }
     ensures exact { λ _. ⌜ Exact (caseOf meaning (now (bound .entry)) (now (trace .entry))) ⌝ }
 {
+    let numbers = bound.numbers();
+    let m = bound.rule().nodes().len();
     if trace.len() > MOST_EVENTS {
         return Err(Fault::ManyEvents);
     }
-    check_events::<YesNo, R>(bound.reading(), bound.numbers(), trace)?;
-    if !ends_at_root(bound.rule(), claims) {
+    check_events::<YesNo, R>(bound.reading(), numbers, trace)?;
+    if !ends_at_root(m, claims) {
         return Err(Fault::BadEnd(claims.len()));
     }
     check_support(bound, trace, claims)?;

@@ -124,15 +124,17 @@ pub fn write<R: Reading>(
     ensures answers { λ r. ⌜ r ≡ answer (unwritten (caseOf meaning (now (bound .entry)) (now (trace .entry))) (length (now (out .entry)))) (claimCount (caseOf meaning (now (bound .entry)) (now (trace .entry)))) ⌝ }
     ensures leaves { λ _. ⌜ Left (unwritten (caseOf meaning (now (bound .entry)) (now (trace .entry))) (length (now (out .entry)))) (now (out .exit) ≡ now (out .entry)) (Written (caseOf meaning (now (bound .entry)) (now (trace .entry))) (now (out .entry)) (now (out .exit))) ⌝ }
 {
+    let numbers = bound.numbers();
+    let m = bound.rule().nodes().len();
     let n = trace.len();
     if n > MOST_EVENTS {
         return Err(Fault::ManyEvents);
     }
-    let total = (n + 1) * bound.rule().nodes().len();
+    let total = (n + 1) * m;
     if out.len() < total {
         return Err(Fault::ShortBuffer(total));
     }
-    check_events::<YesNo, R>(bound.reading(), bound.numbers(), trace)?;
+    check_events::<YesNo, R>(bound.reading(), numbers, trace)?;
     for i in 0..total {
         out[i] = next_claim(bound, trace, out, i);
     }
