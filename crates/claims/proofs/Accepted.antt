@@ -16,7 +16,11 @@ use Rattle.rules.specs.Rules.{nodeCount}
 use Rattle.rules.specs.declared.fault.Fault.{Fault}
 use Rattle.rules.specs.declared.fault.Fault.the-variants.{ManyEvents, ShortBuffer, BadEnd, Unsupported}
 use Rattle.verdicts.specs.declared.scale.YesNo.{YesNo}
-use Rattle.claims.specs.Ways.{Case, waysAt, verdictOf}
+use Rattle.readings.specs.Binding.{numbersOf}
+use Rattle.readings.specs.Meaning.{Meaning}
+use Rattle.readings.specs.declared.bound.BoundRule.{BoundRule}
+use Rattle.verdicts.specs.Valuation.{wrongEvent}
+use Rattle.claims.specs.Ways.{Case, caseOf, waysAt, verdictOf}
 use Rattle.claims.specs.Claims.{claimAt, sameSign, says, cites, meets, placed, supported, lastOf, rooted, unheard, wrong, badEnd, unsupportedAt, unsupported, refusal, checked}
 use Rattle.claims.specs.Written.{claimCount, unwritten}
 use Rattle.claims.specs.declared.claim.Claim.{Claim}
@@ -103,6 +107,11 @@ module _ (k : Case) (cs : List Claim) where
   pub by-claims : unheard k ≡ None → rooted (nodeCount (k .rule)) cs ≡ true → refusal k cs ≡ unsupported k cs
   unfolding refusal
   by-claims heard e = ap₂ (λ a b. orElse a (orElse b (unsupported k cs))) heard (cond-true (rooted (nodeCount (k .rule)) cs) _ _ e)
+
+-- the first wrong event, as a call tells it
+pub wrong-as : {R : Type 0} (means : R → Meaning) (b : BoundRule R) (cs ns : List ℕ) (r : R) → r ≡ b .reading → ns ≡ numbersOf b →
+    first (length cs) (wrongEvent (means r) false ns cs) ≡ wrong (caseOf means b cs)
+wrong-as means b cs ns r reading numbers = ap₂ (λ x xs. first (length cs) (wrongEvent (means x) false xs cs)) reading numbers
 
 -- why the writing is refused, with so much room
 module _ (k : Case) (room : ℕ) where

@@ -78,6 +78,11 @@ module _ (t u : ℕ → ℕ → YesNo) where
 abbrev claimNo : Case → ℕ → Claim
 claimNo k i = claimOf k (length (k .trace) - i / nodeCount (k .rule)) (i % nodeCount (k .rule))
 
+-- the loop that writes, with i claims written
+pub record Going (k : Case) (i : ℕ) (old new : List Claim) : Type 0 where
+  pub done : (b : ℕ) → b < i → claimAt new b ≡ claimNo k b
+  pub rest : drop (claimCount k) new ≡ drop (claimCount k) old
+
 module _ (k : Case) (ok : Bound k) where
   abbrev n : ℕ
   n = length (k .trace)
@@ -203,12 +208,7 @@ module _ (k : Case) (ok : Bound k) where
         (λ heard e. (list, complete list heard (length-map-counting (claimNo k) 0 (claimCount k)) is ∙ ap Ok e)),
       )
 
-  -- the loop that writes, with i claims written
-  pub record Going (i : ℕ) (old new : List Claim) : Type 0 where
-    pub done : (b : ℕ) → b < i → claimAt new b ≡ claimNo k b
-    pub rest : drop (claimCount k) new ≡ drop (claimCount k) old
-
-  pub going-more : (i : ℕ) (old new : List Claim) (c : Claim) → i < claimCount k → i < length new → c ≡ claimNext k new (n - i / m) (i % m) → Going i old new → Going (i + 1) old (set new i c)
+  pub going-more : (i : ℕ) (old new : List Claim) (c : Claim) → i < claimCount k → i < length new → c ≡ claimNext k new (n - i / m) (i % m) → Going k i old new → Going k (i + 1) old (set new i c)
   going-more i old new c low within is g = record {
     done = below-more (λ b. claimAt (set new i c) b ≡ claimNo k b) i
         (λ b h. let ne : b ≢ i = omega arith in getD-set-other new i b c _ ne ∙ g .done b h)
@@ -216,7 +216,7 @@ module _ (k : Case) (ok : Bound k) where
     rest = drop-set-lt (claimCount k) new i c low ∙ g .rest;
   }
 
-  pub going-all : (i : ℕ) (old new : List Claim) → unheard k ≡ None → claimCount k ≤ i → claimCount k ≤ length new → Going i old new → Written k old new
+  pub going-all : (i : ℕ) (old new : List Claim) → unheard k ≡ None → claimCount k ≤ i → claimCount k ≤ length new → Going k i old new → Written k old new
   going-all i old new heard up fits g =
       let is : Each new = λ q j low within. g .done (index n m q j) (omega (arith, index-low n m q j low within)) ∙ no-index q j low within in
       record {

@@ -149,8 +149,11 @@ module _ (k : Case) (noded : length (nodesOf (k .rule)) ≡ nodeCount (k .rule))
       ways-map (Earlier n m (index n m q j)) (Earlier n m b) (λ x h. (h .0, h .1, omega (arith, h .2))) (waysAt k q j s)
       (early q j s (omega arith) (mod-below i m some))
 
-  pub early-by : (i b : ℕ) (s : Sign) (w : Ways) → w ≡ waysAt k (n - i / m) (i % m) s → i < claimCount k → i ≤ b → OfWays (Earlier n m b) w
-  early-by i b s w is low up = subst (OfWays (Earlier n m b)) (sym is) (early-at i b s low up)
+  -- the same for ways and a number of nodes that a call gives
+  pub early-by : (nodes i b : ℕ) (s : Sign) (w : Ways) → nodes ≡ m → w ≡ waysAt k (n - i / nodes) (i % nodes) s → i < claimCount k → i ≤ b → OfWays (Earlier n nodes b) w
+  early-by nodes i b s w e is low up =
+      let same : w ≡ waysAt k (n - i / m) (i % m) s = is ∙ ap (λ a. waysAt k (n - i / a) (i % a) s) e in
+      subst (λ a. OfWays (Earlier n a b) w) (sym e) (subst (OfWays (Earlier n m b)) (sym same) (early-at i b s low up))
 
 pub chosen-by : (P : Fact → Type 0) (t : ℕ → ℕ → YesNo) (w : Ways) (g : Grounds) → g ≡ chosen t w → OfWays P w → OfGrounds P g
 chosen-by P t w g is h = subst (OfGrounds P) (sym is) (chosen-of P t w h)

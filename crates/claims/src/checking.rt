@@ -4,6 +4,8 @@ ghost use Prim.Native.Nat.{_+_, _<_, _≤_};
 ghost use lib.Dec.{eqb};
 ghost use lib.ListN.{length};
 ghost use Rattle.rules.specs.First.{answer};
+ghost use Rattle.rules.specs.Rules.{nodeCount};
+ghost use Rattle.readings.specs.Binding.{numbersOf};
 ghost use Rattle.claims.specs.Ways.{caseOf};
 ghost use Rattle.claims.specs.Claims.{sameSign, says, cites, rests, meets, placed, supported, rooted, checked, claimAt, unsupported, Sound, Exact};
 use crate::claim::Claim;
@@ -137,7 +139,31 @@ fn ends_at_root(m: usize, claims: &[Claim]) -> bool
     (last.place == 1) & (last.node as usize == m)
 }
 
-// What a list of claims shows that the bound rule comes to on a trace.
+// The check, with the numbers of the letters and the number of nodes at hand.
+fn judge<R: Reading>(
+    bound: &BoundRule<R>,
+    numbers: &[u8],
+    m: usize,
+    trace: &[u32],
+    claims: &[Claim],
+) -> Result<YesNo, Fault>
+    requires { ⌜ now numbers ≡ numbersOf (now bound) ⌝ }
+    requires { ⌜ m ≡ nodeCount (now bound .rule) ⌝ }
+    ensures { λ r. ⌜ r ≡ checked (caseOf meaning (now (bound .entry)) (now (trace .entry))) (now (claims .entry)) ⌝ }
+{
+    if trace.len() > MOST_EVENTS {
+        return Err(Fault::ManyEvents);
+    }
+    check_events::<YesNo, R>(bound.reading(), numbers, trace)?;
+    if !ends_at_root(m, claims) {
+        return Err(Fault::BadEnd(claims.len()));
+    }
+    check_support(bound, trace, claims)?;
+    Ok(verdict_of(claims[claims.len() - 1].sign))
+}
+
+// The verdict that a list of claims shows for a bound rule on a trace. Every claim of a list that is accepted is true, and
+// for the verdict that the rule means, and for no other, there is a list that is accepted.
 pub fn check<R: Reading>(
     bound: &BoundRule<R>,
     trace: &[u32],
@@ -149,13 +175,5 @@ pub fn check<R: Reading>(
 {
     let numbers = bound.numbers();
     let m = bound.rule().nodes().len();
-    if trace.len() > MOST_EVENTS {
-        return Err(Fault::ManyEvents);
-    }
-    check_events::<YesNo, R>(bound.reading(), numbers, trace)?;
-    if !ends_at_root(m, claims) {
-        return Err(Fault::BadEnd(claims.len()));
-    }
-    check_support(bound, trace, claims)?;
-    Ok(verdict_of(claims[claims.len() - 1].sign))
+    judge(bound, numbers, m, trace, claims)
 }
