@@ -86,15 +86,15 @@ accepted-all k cs v a =
     let none : refusal k cs ≡ None = ap₂ orElse (a .heard) (ap₂ orElse end every) in
     ap (λ f. answer f (verdictOf (lastOf cs .sign))) none ∙ ap Ok (a .tells)
 
+pub few-events : (k : Case) → length (k .trace) ≤ 4095 → unheard k ≡ wrong k
+unfolding unheard
+few-events k h = cond-false (ltb 4095 (length (k .trace))) _ _ (le-ltb 4095 (length (k .trace)) h)
+
 -- why a list is refused, reason by reason
 module _ (k : Case) (cs : List Claim) where
   pub many-events : 4095 < length (k .trace) → refusal k cs ≡ Some ManyEvents
   unfolding refusal unheard
   many-events h = ap (λ f. orElse f (orElse (badEnd (nodeCount (k .rule)) cs) (unsupported k cs))) (cond-true (ltb 4095 (length (k .trace))) _ _ (lt-ltb 4095 (length (k .trace)) h))
-
-  pub few-events : length (k .trace) ≤ 4095 → unheard k ≡ wrong k
-  unfolding unheard
-  few-events h = cond-false (ltb 4095 (length (k .trace))) _ _ (le-ltb 4095 (length (k .trace)) h)
 
   pub wrong-event : (f : Fault) → unheard k ≡ Some f → refusal k cs ≡ Some f
   unfolding refusal
@@ -108,10 +108,19 @@ module _ (k : Case) (cs : List Claim) where
   unfolding refusal
   by-claims heard e = ap₂ (λ a b. orElse a (orElse b (unsupported k cs))) heard (cond-true (rooted (nodeCount (k .rule)) cs) _ _ e)
 
--- the first wrong event, as a call tells it
-pub wrong-as : {R : Type 0} (means : R → Meaning) (b : BoundRule R) (cs ns : List ℕ) (r : R) → r ≡ b .reading → ns ≡ numbersOf b →
-    first (length cs) (wrongEvent (means r) false ns cs) ≡ wrong (caseOf means b cs)
-wrong-as means b cs ns r reading numbers = ap₂ (λ x xs. first (length cs) (wrongEvent (means x) false xs cs)) reading numbers
+-- the first wrong event, as a call on the reading and the numbers tells it
+module _ {R : Type 0} (means : R → Meaning) (b : BoundRule R) (cs ns : List ℕ) (r : R) (reading : r ≡ b .reading) (numbers : ns ≡ numbersOf b) where
+  abbrev told : Option Fault
+  told = first (length cs) (wrongEvent (means r) false ns cs)
+
+  told-wrong : told ≡ wrong (caseOf means b cs)
+  told-wrong = ap₂ (λ x xs. first (length cs) (wrongEvent (means x) false xs cs)) reading numbers
+
+  pub wrong-none : (v : Unit {0}) → answer told (tt {0}) ≡ Ok v → wrong (caseOf means b cs) ≡ None
+  wrong-none v e = sym told-wrong ∙ answer-none told (tt {0}) v e .0
+
+  pub wrong-some : (y : Fault) → answer told (tt {0}) ≡ Err y → wrong (caseOf means b cs) ≡ Some y
+  wrong-some y e = sym told-wrong ∙ answer-some told (tt {0}) y e
 
 -- why the writing is refused, with so much room
 module _ (k : Case) (room : ℕ) where
