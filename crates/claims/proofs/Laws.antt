@@ -18,7 +18,6 @@ higher-comm : (x y : YesNo) → higher x y ≡ higher y x
 higher-comm Broken = every (λ y. y ≡ higher y Broken) refl refl
 higher-comm Kept = every (λ y. Kept ≡ higher y Kept) refl refl
 
-
 pub yes-no-laws : Laws yesNo
 yes-no-laws = record {
   meet-assoc = every (λ x. (y z : YesNo) → lower (lower x y) z ≡ lower x (lower y z)) (λ y z. refl) (λ y z. refl);

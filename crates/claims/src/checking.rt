@@ -22,7 +22,7 @@ use verdicts::YesNo;
 use verdicts::YesNoScale;
 use verdicts::check_events;
 
-const MOST_EVENTS: usize = 4095;
+pub(crate) const MOST_EVENTS: usize = 4095;
 
 pub(crate) fn same_sign(a: Sign, b: Sign) -> bool
     ensures { λ r. ⌜ r ≡ sameSign a b ⌝ }

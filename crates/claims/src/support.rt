@@ -130,7 +130,15 @@ fn before(event: bool, place: usize, own: usize, operator: Unary, a: u8, sign: S
 }
 
 // An operator between nodes `a` and `b`.
-fn between(event: bool, place: usize, own: usize, operator: Binary, a: u8, b: u8, sign: Sign) -> Ways
+fn between(
+    event: bool,
+    place: usize,
+    own: usize,
+    operator: Binary,
+    a: u8,
+    b: u8,
+    sign: Sign,
+) -> Ways
     requires { ⌜ place ≤ 4095 ⌝ }
     ensures { λ r. ⌜ r ≡ betweenWays event place own operator a b sign ⌝ }
 {
@@ -161,7 +169,8 @@ fn letter<R: Reading>(bound: &BoundRule<R>, trace: &[u32], place: usize, l: u8) 
     if place >= trace.len() {
         return YesNo::Broken;
     }
-    match bound.reading().mark(trace[place], bound.numbers()[l as usize]) {
+    let number = bound.numbers()[l as usize];
+    match bound.reading().mark(trace[place], number) {
         Mark::On => YesNo::Kept,
         Mark::Off | Mark::Doubt => YesNo::Broken,
     }

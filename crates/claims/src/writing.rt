@@ -6,6 +6,7 @@ ghost use Rattle.rules.specs.First.{answer, Left};
 ghost use Rattle.rules.specs.Rules.{nodeCount};
 ghost use Rattle.claims.specs.Ways.{caseOf, isTrue, stands, given};
 ghost use Rattle.claims.specs.Written.{claimCount, number, chosen, claimOn, claimNext, shown, signIf, Earlier, OfGrounds, OfWays, unwritten, Written};
+use crate::checking::MOST_EVENTS;
 use crate::checking::same_sign;
 use crate::claim::Claim;
 use crate::claim::Sign;
@@ -19,8 +20,6 @@ use rules::Fault;
 use verdicts::YesNo;
 use verdicts::YesNoScale;
 use verdicts::check_events;
-
-const MOST_EVENTS: usize = 4095;
 
 // Whether the claims show that a fact is true.
 fn shows(n: usize, m: usize, claims: &[Claim], x: Fact) -> bool
