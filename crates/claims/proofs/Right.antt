@@ -8,7 +8,7 @@ use native.Mathlib.Omega.{arith}
 use lib.ListN.{length, getD, drop}
 use Rattle.std.proofs.shelf.Lists.{drop-all, drop-more, getD-map, length-map}
 use Rattle.std.proofs.shelf.Tests.{ltb-true, ltb-false}
-use Rattle.rules.specs.Rules.{nodeCount, letterCount, nodesOf}
+use Rattle.rules.specs.Rules.{nodeCount, letterCount, nodesOf, treeOfRule}
 use Rattle.rules.specs.Tree.{Tree, treeOf, decode, nodeAt}
 use Rattle.rules.specs.declared.node.Unary.{Unary}
 use Rattle.rules.specs.declared.node.Binary.{Binary}
@@ -26,9 +26,9 @@ use Rattle.verdicts.specs.declared.scale.YesNo.the-variants.{Broken, Kept}
 use Rattle.verdicts.proofs.Lift.{decode-step}
 use Rattle.verdicts.proofs.Recur.{unary-end, unary-row, binary-end, binary-row}
 use Rattle.verdicts.proofs.Rules.{nodes-ordered, nodes-lettered}
-use Rattle.verdicts.proofs.Traced.{rows-laid}
+use Rattle.verdicts.proofs.Traced.{rows-laid, rows-written}
 use Rattle.claims.specs.Ways.{Case, caseOf, other, fact, turned, only, all, any, alike, comes, beforeWays, betweenWays, ways, isEvent, letterAt, waysAt, agree, isTrue, given}
-use Rattle.claims.specs.Claims.{meant, recordOf}
+use Rattle.claims.specs.Claims.{meant, recordOf, Evaluated}
 use Rattle.claims.specs.declared.claim.Sign.{Sign}
 use Rattle.claims.specs.declared.claim.Sign.the-variants.{Holds, Fails}
 use Rattle.claims.specs.declared.grounds.Fact.{Fact}
@@ -275,3 +275,10 @@ module _ (k : Case) (ok : Bound k) where
       right (decode (nodeAt ns)) at (letterCount (k .rule)) q j (letterAt k q) (λ l h. lettered q l h (isEvent k q) refl) (isEvent k q) (shape q (isEvent k q) refl) (nodeAt ns j)
       (nodes-lettered (k .rule) (ok .noded) j within) step s
       ∙ ap (λ x. agree s (means yesNo x (at q))) (sym step)
+
+  pub evaluated : Evaluated k
+  evaluated old new is =
+      let values = laid yesNo Broken (k .meaning) (k .numbers) (k .trace) in
+      let same : rows (length (k .trace)) (letterCount (k .rule)) new ≡ rows (length (k .trace)) (letterCount (k .rule)) values =
+      subst (λ n. rows (length (k .trace)) n new ≡ rows (length (k .trace)) n values) (ok .numbered) (rows-written yesNo Broken (k .meaning) (k .numbers) (k .trace) old new is) in
+      ap (means yesNo (treeOfRule (k .rule))) same

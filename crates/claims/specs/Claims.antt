@@ -16,7 +16,7 @@ use Rattle.rules.specs.declared.fault.Fault.{Fault}
 use Rattle.rules.specs.declared.fault.Fault.the-variants.{ManyEvents, BadEnd, Unsupported}
 use Rattle.verdicts.specs.Meaning.{means}
 use Rattle.verdicts.specs.Outcome.{recorded}
-use Rattle.verdicts.specs.Valuation.{laid, wrongEvent}
+use Rattle.verdicts.specs.Valuation.{laid, Laid, wrongEvent}
 use Rattle.verdicts.specs.YesNo.{yesNo}
 use Rattle.verdicts.specs.declared.scale.YesNo.{YesNo}
 use Rattle.verdicts.specs.declared.scale.YesNo.the-variants.{Broken}
@@ -127,3 +127,9 @@ Exact k =
     (v : YesNo) →
     (((cs : List Claim) × (checked k cs ≡ Ok v)) → verdict k ≡ v)
     × (unheard k ≡ None → verdict k ≡ v → (cs : List Claim) × (checked k cs ≡ Ok v))
+
+-- an evaluation on a valuation that was laid for the trace answers this verdict
+abbrev pub Evaluated : Case → Type 0
+Evaluated k =
+    (old new : List YesNo) → Laid (laid yesNo Broken (k .meaning) (k .numbers) (k .trace)) old new →
+    means yesNo (treeOfRule (k .rule)) (recorded (k .rule) (length (k .trace)) new) ≡ verdict k

@@ -7,7 +7,7 @@ ghost use Rattle.rules.specs.First.{answer};
 ghost use Rattle.rules.specs.Rules.{nodeCount};
 ghost use Rattle.readings.specs.Binding.{numbersOf};
 ghost use Rattle.claims.specs.Ways.{caseOf};
-ghost use Rattle.claims.specs.Claims.{sameSign, says, cites, rests, meets, placed, supported, rooted, checked, claimAt, unsupported, Sound, Exact};
+ghost use Rattle.claims.specs.Claims.{sameSign, says, cites, rests, meets, placed, supported, rooted, checked, claimAt, unsupported, Sound, Exact, Evaluated};
 use crate::claim::Claim;
 use crate::claim::Sign;
 use crate::grounds::Fact;
@@ -163,7 +163,7 @@ fn judge<R: Reading>(
 }
 
 // The verdict that a list of claims shows for a bound rule on a trace. Every claim of a list that is accepted is true, and
-// for the verdict that the rule means, and for no other, there is a list that is accepted.
+// for the verdict that the rule means, and for no other, there is a list that is accepted. An evaluation answers the same.
 pub fn check<R: Reading>(
     bound: &BoundRule<R>,
     trace: &[u32],
@@ -172,6 +172,7 @@ pub fn check<R: Reading>(
     ensures answers { λ r. ⌜ r ≡ checked (caseOf meaning (now (bound .entry)) (now (trace .entry))) (now (claims .entry)) ⌝ }
     ensures sound { λ _. ⌜ Sound (caseOf meaning (now (bound .entry)) (now (trace .entry))) (now (claims .entry)) ⌝ }
     ensures exact { λ _. ⌜ Exact (caseOf meaning (now (bound .entry)) (now (trace .entry))) ⌝ }
+    ensures evaluated { λ _. ⌜ Evaluated (caseOf meaning (now (bound .entry)) (now (trace .entry))) ⌝ }
 {
     let numbers = bound.numbers();
     let m = bound.rule().nodes().len();
