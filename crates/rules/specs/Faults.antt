@@ -1,7 +1,7 @@
 -- Each fault's number, layer and place, and the fault that a stop is. Assumes nothing.
 use Prim.Native.Nat.{ℕ, _-_}
 use Rattle.rules.specs.declared.fault.Fault.{Fault}
-use Rattle.rules.specs.declared.fault.Fault.the-variants.{LongText, NoSign, Misplaced, LongName, DeepNesting, ManyNodes, ManyLetters, ManyNames, NotAName, RepeatedName, AbsentName, ManyEvents, HighCode, InDoubt, ShortBuffer, OutOfForm}
+use Rattle.rules.specs.declared.fault.Fault.the-variants.{LongText, NoSign, Misplaced, LongName, DeepNesting, ManyNodes, ManyLetters, ManyNames, NotAName, RepeatedName, AbsentName, ManyEvents, HighCode, InDoubt, ShortBuffer, Unsupported, BadEnd, OutOfForm}
 use Rattle.rules.specs.declared.fault.Layer.{Layer}
 use Rattle.rules.specs.declared.fault.Layer.the-variants.{Signs, Grammar, Names, Traces, Files}
 use Rattle.rules.specs.declared.sign.Why.{Why}
@@ -23,6 +23,8 @@ numberOf ManyEvents = 12
 numberOf (HighCode at) = 13
 numberOf (InDoubt at) = 14
 numberOf (ShortBuffer at) = 15
+numberOf (Unsupported at) = 19
+numberOf (BadEnd at) = 20
 numberOf OutOfForm = 21
 
 abbrev pub layerOf : Fault → Layer
@@ -41,6 +43,8 @@ layerOf ManyEvents = Traces
 layerOf (HighCode at) = Traces
 layerOf (InDoubt at) = Traces
 layerOf (ShortBuffer at) = Traces
+layerOf (Unsupported at) = Traces
+layerOf (BadEnd at) = Traces
 layerOf OutOfForm = Files
 
 abbrev pub layerNumber : Layer → ℕ
@@ -67,6 +71,8 @@ placeOf ManyEvents = 4096
 placeOf (HighCode at) = at
 placeOf (InDoubt at) = at
 placeOf (ShortBuffer at) = at
+placeOf (Unsupported at) = at
+placeOf (BadEnd at) = at
 placeOf OutOfForm = 0
 
 abbrev pub faultAt : Why → ℕ → Fault

@@ -31,6 +31,10 @@ pub enum Fault {
     InDoubt(usize),
     // lent memory is shorter than this length
     ShortBuffer(usize),
+    // the claim of this number is not supported
+    Unsupported(usize),
+    // a list of so many claims does not end with the whole rule at the first place
+    BadEnd(usize),
     // a line of a file is out of form
     OutOfForm,
 }

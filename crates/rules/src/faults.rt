@@ -24,6 +24,8 @@ impl Fault {
             Fault::HighCode(_) => 13,
             Fault::InDoubt(_) => 14,
             Fault::ShortBuffer(_) => 15,
+            Fault::Unsupported(_) => 19,
+            Fault::BadEnd(_) => 20,
             Fault::OutOfForm => 21,
         }
     }
@@ -42,8 +44,12 @@ impl Fault {
             | Fault::NotAName(_)
             | Fault::RepeatedName(_)
             | Fault::AbsentName(_) => Layer::Names,
-            Fault::ManyEvents | Fault::HighCode(_) | Fault::InDoubt(_) | Fault::ShortBuffer(_) =>
-                Layer::Traces,
+            Fault::ManyEvents
+            | Fault::HighCode(_)
+            | Fault::InDoubt(_)
+            | Fault::ShortBuffer(_)
+            | Fault::Unsupported(_)
+            | Fault::BadEnd(_) => Layer::Traces,
             Fault::OutOfForm => Layer::Files,
         }
     }
@@ -65,7 +71,9 @@ impl Fault {
             | Fault::AbsentName(at)
             | Fault::HighCode(at)
             | Fault::InDoubt(at)
-            | Fault::ShortBuffer(at) => at,
+            | Fault::ShortBuffer(at)
+            | Fault::Unsupported(at)
+            | Fault::BadEnd(at) => at,
             Fault::ManyEvents => 4096,
             Fault::OutOfForm => 0,
         }

@@ -3,4 +3,5 @@ pub mod Lift
 pub mod Recur
 pub mod Rules
 pub mod Steps
+pub mod Traced
 pub mod Valuing

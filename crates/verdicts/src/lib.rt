@@ -15,4 +15,5 @@ pub use three_way::ThreeWay;
 pub use three_way::ThreeWayDebug;
 pub use three_way::ThreeWayPartialEq;
 pub use three_way::ThreeWayScale;
+pub use valuation::check_events;
 pub use valuation::valuate;

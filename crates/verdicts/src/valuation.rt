@@ -21,8 +21,8 @@ fn may_doubt<S: Scale>(set: u8) -> bool
     S::doubt_is_taken() || set == 0
 }
 
-// The first event that is refused.
-fn check_events<S: Scale, R: Reading>(
+// The first event that is refused. Events count from 1.
+pub fn check_events<S: Scale, R: Reading>(
     reading: &R,
     numbers: &[u8],
     trace: &[u32],
