@@ -1,5 +1,6 @@
 // A log file: its lines, and the report on it.
 mod answer;
+mod claim_lines;
 mod decimal;
 mod display;
 mod event_lines;
@@ -10,6 +11,7 @@ mod logged;
 mod stop;
 
 pub use answer::Answer;
+pub use answer::Report;
 pub use display::AnswerDisplay;
 pub use judgement::judge;
 pub use judgement::report;

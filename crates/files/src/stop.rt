@@ -6,6 +6,8 @@ use std::alloc::Refused;
 #[derive(Drop)]
 pub enum Stop {
     Fault(Fault),
+    // a fault of the file as a whole, told at line 0
+    Whole(Fault),
     Memory,
 }
 
