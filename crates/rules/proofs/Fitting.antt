@@ -7,7 +7,7 @@ use Prim.Native.Nat.{ℕ, _+_, _-_, _≤_, _<_}
 use native.Mathlib.Nat.{add-zero, zero-add}
 use native.Mathlib.Omega.{arith}
 use lib.ListN.{length}
-use Rattle.std.proofs.shelf.Lists.{getD-append-left, getD-append-right, getD-take, length-append, length-push, length-take-le}
+use Rattle.std.proofs.shelf.Lists.{getD-append-left, getD-append-right, getD-take, length-append, length-take-le}
 use Rattle.std.proofs.shelf.Tests.{cases-lt, lt-ltb, and-from}
 use Rattle.rules.specs.Names.{tableLetters, numbered}
 use Rattle.rules.specs.Descent.{Built}

@@ -1,5 +1,5 @@
 -- The outcome of reading a text: its first fault, or the whole rule. Assumes nothing.
-use mathlib.Core.Path.{_≡_, refl, sym, ap, subst, _∙_}
+use mathlib.Core.Path.{_≡_, sym, ap, _∙_}
 use mathlib.Core.List.{List, []}
 use Prim.Native.Nat.{ℕ, suc, _-_, _≤_, _<_}
 use native.Mathlib.Omega.{arith}
@@ -12,15 +12,14 @@ use Rattle.std.proofs.shelf.Lists.{length-take-le}
 use Rattle.std.proofs.shelf.Tests.{cond-true, cond-false, lt-ltb, le-ltb}
 use Rattle.rules.specs.Descent.{Built}
 use Rattle.rules.specs.Faults.{faultOf}
-use Rattle.rules.specs.First.{answer, Left}
+use Rattle.rules.specs.First.{answer}
 use Rattle.rules.specs.Names.{namesIn, tableNodes, tableLetters, numbered}
 use Rattle.rules.specs.Reading.{Says, Whole, Within}
 use Rattle.rules.specs.Rest.{turn, Halts}
-use Rattle.rules.specs.Scan.{want, have, scan, firstFault}
-use Rattle.rules.specs.Text.{_then_, signs, signsFrom}
-use Rattle.rules.specs.Tree.{Tree, decode, nodeAt, flatten}
+use Rattle.rules.specs.Scan.{want, have, firstFault}
+use Rattle.rules.specs.Text.{_then_, signs}
+use Rattle.rules.specs.Tree.{decode, nodeAt, flatten}
 use Rattle.rules.specs.declared.fault.Fault.{Fault}
-use Rattle.rules.specs.declared.rule.Letter.{Letter}
 use Rattle.rules.specs.declared.rule.Rule.{Rule}
 use Rattle.rules.specs.declared.rule.Table.{Table}
 use Rattle.rules.specs.declared.sign.Stop.{Stop}

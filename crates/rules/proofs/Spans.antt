@@ -15,7 +15,7 @@ use Rattle.rules.specs.Names.{place}
 use Rattle.rules.specs.Rest.{Out, go, halt, done, turn, step, Reach, here, onward, Halts, Ended, Reads, a-name, a-truth, a-before, a-group, up, to-left, to-right}
 use Rattle.rules.specs.Scan.{State, react, scan}
 use Rattle.rules.specs.Signs.{Lexed, sign, bad, lex, stopAt, skipped}
-use Rattle.rules.specs.Text.{Placed, placed, Signs, next, the-end, no-sign, _then_, isEnd, byteAt, found, signsFrom}
+use Rattle.rules.specs.Text.{Placed, placed, Signs, next, the-end, _then_, isEnd, byteAt, found, signsFrom}
 use Rattle.rules.specs.Tree.{Tree, between}
 use Rattle.rules.specs.declared.fault.Fault.{Fault}
 use Rattle.rules.specs.declared.node.Binary.{Binary}

@@ -8,7 +8,7 @@ use Rattle.std.specs.declared.option.Option.{Option}
 use Rattle.std.specs.declared.option.Option.the-variants.{Some, None}
 use Rattle.rules.specs.Faults.{faultAt}
 use Rattle.rules.specs.Names.{place, added}
-use Rattle.rules.specs.Text.{Placed, Signs, next, the-end, no-sign, signs}
+use Rattle.rules.specs.Text.{Signs, next, the-end, no-sign, signs}
 use Rattle.rules.specs.declared.fault.Fault.{Fault}
 use Rattle.rules.specs.declared.fault.Fault.the-variants.{LongText}
 use Rattle.rules.specs.declared.name.Name.{Name}

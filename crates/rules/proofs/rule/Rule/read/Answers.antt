@@ -1,11 +1,10 @@
-use mathlib.Core.Path.{_≡_, refl, sym, ap, subst, _∙_}
+use mathlib.Core.Path.{refl, sym, ap, _∙_}
 use Prim.Native.Nat.{_≤_}
 use native.Mathlib.Omega.{arith}
 use borrow.Author.Needs.{needs}
 use lib.ListN.{length}
 use Rattle.std.specs.declared.option.Option.the-variants.{Some}
-use Rattle.rules.specs.First.{answer, Left}
-use Rattle.rules.specs.Scan.{firstFault}
+use Rattle.rules.specs.First.{answer}
 use Rattle.rules.proofs.Fitting.{size-some, built-fits}
 use Rattle.rules.proofs.OneTree.{one-tree}
 use Rattle.rules.proofs.Outcome.{too-long, stopped, no-fault, built-flat, built-whole, reads-all}
