@@ -20,7 +20,7 @@ use Rattle.readings.specs.Binding.{numbersOf}
 use Rattle.readings.specs.Meaning.{Meaning}
 use Rattle.readings.specs.declared.bound.BoundRule.{BoundRule}
 use Rattle.verdicts.specs.Valuation.{wrongEvent}
-use Rattle.claims.specs.Ways.{Case, caseOf, waysAt, verdictOf}
+use Rattle.claims.specs.Ways.{Case, caseOf, verdictOf}
 use Rattle.claims.specs.Claims.{claimAt, sameSign, says, cites, meets, placed, supported, lastOf, rooted, unheard, wrong, badEnd, unsupportedAt, unsupported, refusal, checked}
 use Rattle.claims.specs.Written.{claimCount, unwritten}
 use Rattle.claims.specs.declared.claim.Claim.{Claim}

@@ -7,7 +7,7 @@ use Prim.Native.Nat.{ℕ, _+_, _-_, _*_, _/_, _%_, _<_, _≤_}
 use native.Mathlib.Nat.{add-mul, one-mul}
 use native.Mathlib.Omega.{arith}
 use lib.Dec.{eqb, ltb}
-use lib.ListN.{length, getD, set, take, drop}
+use lib.ListN.{length, set, take, drop}
 use lib.Seq.{getD-set-same, getD-set-other}
 use borrow.Author.Count.{below-more}
 use Rattle.std.specs.Iters.{counting}
@@ -17,11 +17,11 @@ use Rattle.std.proofs.shelf.Bits.{mod-below, mul-le}
 use Rattle.std.proofs.shelf.Counted.{length-map-counting, getD-map-counting}
 use Rattle.std.proofs.shelf.Lists.{drop-set-lt, length-take-le, getD-take}
 use Rattle.std.proofs.shelf.Tests.{and-parts, and-from, eq-eqb, lt-ltb, or-left, or-right}
-use Rattle.rules.specs.Rules.{nodeCount, nodesOf}
+use Rattle.rules.specs.Rules.{nodeCount}
 use Rattle.verdicts.specs.declared.scale.YesNo.{YesNo}
 use Rattle.verdicts.specs.declared.scale.YesNo.the-variants.{Broken, Kept}
 use Rattle.claims.specs.Ways.{Case, waysAt, verdictOf, signOf, agree, isTrue, stands, given}
-use Rattle.claims.specs.Claims.{claimAt, cites, rests, meets, placed, supported, lastOf, rooted, unheard, meant, verdict, checked, Exact}
+use Rattle.claims.specs.Claims.{claimAt, cites, rests, meets, placed, supported, lastOf, unheard, meant, verdict, checked, Exact}
 use Rattle.claims.specs.Written.{claimCount, index, number, chosen, firstOf, secondOf, claimOn, claimBy, claimOf, claimNext, shown, signIf, Earlier, OfGrounds, OfWays, Written}
 use Rattle.claims.specs.declared.claim.Claim.{Claim}
 use Rattle.claims.specs.declared.claim.Sign.{Sign}
@@ -32,7 +32,7 @@ use Rattle.claims.specs.declared.grounds.Grounds.the-variants.{Nothing, One, B
 use Rattle.claims.specs.declared.grounds.Ways.{Ways}
 use Rattle.claims.specs.declared.grounds.Ways.the-variants.{Never, By, Either}
 use Rattle.claims.proofs.Accepted.{accepted-all, cited-all, placed-all}
-use Rattle.claims.proofs.Early.{place-low, index-back, index-place, index-node, index-low, ways-map, early, early-at}
+use Rattle.claims.proofs.Early.{index-back, index-place, index-node, index-low, ways-map, early, early-at}
 use Rattle.claims.proofs.Right.{Bound, right-at}
 use Rattle.claims.proofs.Sound.{accepted-means}
 

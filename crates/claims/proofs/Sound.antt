@@ -1,9 +1,9 @@
 -- Every claim of an accepted list is true. Assumes nothing.
 use mathlib.Core.Path.{_≡_, refl, sym, ap, ap₂, _∙_}
-use mathlib.Core.Bool.{Bool, true, false, _&&_, _||_}
+use mathlib.Core.Bool.{true, _&&_}
 use mathlib.Core.Logic.{⊎-elim}
 use mathlib.Core.List.{List}
-use Prim.Native.Nat.{ℕ, zero, suc, _+_, _-_, _<_, _≤_}
+use Prim.Native.Nat.{ℕ, zero, suc, _-_, _<_}
 use native.Mathlib.Nat.{not-suc-le-zero}
 use native.Mathlib.Omega.{arith}
 use lib.Dec.{eqb, ltb}
@@ -14,7 +14,7 @@ use Rattle.rules.specs.Rules.{nodeCount}
 use Rattle.verdicts.specs.declared.scale.YesNo.{YesNo}
 use Rattle.verdicts.specs.declared.scale.YesNo.the-variants.{Broken, Kept}
 use Rattle.claims.specs.Ways.{Case, waysAt, verdictOf, agree, isTrue, stands, given}
-use Rattle.claims.specs.Claims.{claimAt, cites, rests, meets, placed, supported, lastOf, rooted, meant, verdict, checked, True, Sound}
+use Rattle.claims.specs.Claims.{claimAt, cites, rests, meets, placed, supported, lastOf, meant, verdict, checked, True, Sound}
 use Rattle.claims.specs.declared.claim.Claim.{Claim}
 use Rattle.claims.specs.declared.claim.Sign.{Sign}
 use Rattle.claims.specs.declared.claim.Sign.the-variants.{Holds, Fails}
@@ -23,7 +23,7 @@ use Rattle.claims.specs.declared.grounds.Grounds.{Grounds}
 use Rattle.claims.specs.declared.grounds.Grounds.the-variants.{Nothing, One, Both}
 use Rattle.claims.specs.declared.grounds.Ways.{Ways}
 use Rattle.claims.specs.declared.grounds.Ways.the-variants.{Never, By, Either}
-use Rattle.claims.proofs.Accepted.{Accepted, accepted-parts, Cited, cited-parts, Standing, placed-parts}
+use Rattle.claims.proofs.Accepted.{accepted-parts, cited-parts, placed-parts}
 use Rattle.claims.proofs.Right.{Bound, right-at}
 
 agree-own : (s : Sign) → agree s (verdictOf s) ≡ true

@@ -8,7 +8,7 @@ use lib.ListN.{length, getD, drop}
 use Rattle.std.specs.declared.option.Option.{Option}
 use Rattle.std.specs.declared.option.Option.the-variants.{Some, None}
 use Rattle.std.specs.declared.result.Result.{Result}
-use Rattle.std.specs.declared.result.Result.the-variants.{Ok, Err}
+use Rattle.std.specs.declared.result.Result.the-variants.{Ok}
 use Rattle.rules.specs.First.{answer, first, orElse}
 use Rattle.rules.specs.Rules.{nodeCount, nodesOf, treeOfRule}
 use Rattle.rules.specs.Tree.{decode, nodeAt}

@@ -2,17 +2,16 @@
 use mathlib.Core.Path.{_≡_}
 use mathlib.Core.Bool.{Bool, cond}
 use mathlib.Core.List.{List}
-use Prim.Native.Nat.{ℕ, _+_, _-_, _*_, _/_, _%_, _≤_, _<_}
+use Prim.Native.Nat.{ℕ, _+_, _-_, _*_, _≤_, _<_}
 use lib.Dec.{ltb}
 use lib.ListN.{length, take, drop}
 use Rattle.std.specs.declared.option.Option.{Option}
-use Rattle.std.specs.declared.option.Option.the-variants.{Some, None}
+use Rattle.std.specs.declared.option.Option.the-variants.{Some}
 use Rattle.std.specs.declared.result.Result.the-variants.{Ok}
 use Rattle.rules.specs.Rules.{nodeCount}
 use Rattle.rules.specs.declared.fault.Fault.{Fault}
 use Rattle.rules.specs.declared.fault.Fault.the-variants.{ManyEvents, ShortBuffer}
 use Rattle.verdicts.specs.declared.scale.YesNo.{YesNo}
-use Rattle.verdicts.specs.declared.scale.YesNo.the-variants.{Broken, Kept}
 use Rattle.claims.specs.Ways.{Case, waysAt, verdictOf, signOf, stands, given}
 use Rattle.claims.specs.Claims.{claimAt, meant, verdict, checked, wrong}
 use Rattle.claims.specs.declared.claim.Claim.{Claim}

@@ -1,7 +1,6 @@
 // The rules of support, as code. Places and nodes count from 0 here: place n is the empty rest.
 ghost use mathlib.Core.Path.{_≡_};
 ghost use Prim.Native.Nat.{_+_, _<_, _≤_};
-ghost use lib.ListN.{length};
 ghost use Rattle.rules.specs.Rules.{nodeCount, letterCount};
 ghost use Rattle.verdicts.specs.Meaning.{constant};
 ghost use Rattle.verdicts.specs.YesNo.{yesNo};
