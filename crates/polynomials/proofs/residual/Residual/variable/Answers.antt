@@ -1,0 +1,4 @@
+use Rattle.polynomials.proofs.residual.Residual.variable.Needs as need
+
+pub returns : need.returns
+returns c s l = ?
