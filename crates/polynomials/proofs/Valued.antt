@@ -1,12 +1,13 @@
 -- The values of each way to make a polynomial: the laws of specs/Laws.antt.
 use mathlib.Core.Path.{_≡_, refl, sym, ap, _∙_}
 use mathlib.Core.Bool.{Bool, true, false, not, _&&_, _||_, cond, and-true, and-false, and-comm}
-use mathlib.Core.Logic.{⊎-elim}
-use Prim.Native.Nat.{ℕ, zero, suc, _^_, _<_, _≤_}
+use mathlib.Core.Logic.{_⊎_, inl, inr, ⊎-elim}
+use Prim.Native.Nat.{ℕ, zero, suc, _*_, _%_, _^_, _<_, _≤_}
 use native.Mathlib.Omega.{arith}
 use lib.Bits.{bitOr, or-lt}
 use lib.Dec.{eqb}
 use lib.Pow.{pow-lt, pow-mono}
+use Rattle.std.proofs.shelf.Bits.{one-shl}
 use Rattle.std.proofs.shelf.Tests.{cases-lt, ne-eqb}
 use Rattle.polynomials.specs.Sets.{xorBelow, allBelow, setBelow, bitAt, inSet, within}
 use Rattle.polynomials.specs.Polynomial.{Polynomial, one, variable, sum, product, productOver, substitute, valueIn, value, step}
@@ -107,6 +108,19 @@ lone i v h =
 past-last : (i s : ℕ) → 8 ≤ i → s < 256 → s < 2 ^ i
 past-last i s h l = let k : 2 ^ 8 ≤ 2 ^ i = pow-mono h in omega arith
 
+-- the terms of a variable, where there is one
+pub variable-is : (i m s : ℕ) → i ≡ suc m → m < 8 → eqb ((1 * 2 ^ m) % 2 ^ 8) s ≡ variable i s
+unfolding variable
+variable-is i m s e h =
+    ap (λ (x : ℕ). eqb x s) (one-shl m 8 h) ∙ eqb-comm (2 ^ m) s ∙ ap (λ (k : ℕ). variable k s) (sym e)
+
+-- and where there is none
+pub variable-none : (i s : ℕ) → (i ≡ 0) ⊎ (9 ≤ i) → s < 256 → false ≡ variable i s
+unfolding variable
+variable-none zero s out l = refl
+variable-none (suc i) s (inl e) l = absurd (omega arith)
+variable-none (suc i) s (inr h) l = let m : s < 2 ^ i = past-last i s (omega arith) l in sym (ne-eqb s (2 ^ i) (λ e. omega arith))
+
 pub value-variable : laws.Value-variable
 unfolding variable
 value-variable zero v l = in-nothing 8 v
@@ -115,7 +129,7 @@ value-variable (suc i) v l =
     (λ (h : i < 8).
     in-cong 8 (λ s. eqb s (2 ^ i)) (λ s. eqb (2 ^ i) s) v (λ s k. eqb-comm s (2 ^ i)) ∙ value-term (2 ^ i) v (pow-lt h) ∙ lone i v h)
     (λ (h : 8 ≤ i).
-    in-cong 8 (λ s. eqb s (2 ^ i)) (λ s. false) v (λ s k. let m : s < 2 ^ i = past-last i s h k in ne-eqb s (2 ^ i) (λ e. omega arith))
+    in-cong 8 (variable (suc i)) (λ s. false) v (λ s k. sym (variable-none (suc i) s (inr (omega arith)) k))
     ∙ in-nothing 8 v ∙ sym (bit-small i v (past-last i v h l)))
     (cases-lt i 8)
 
