@@ -30,9 +30,7 @@ impl VectorSet {
     pub fn full() -> VectorSet
         ensures { λ r. ⌜ ((v : ℕ) → v < 256 → vectors r v ≡ true) ⌝ }
     {
-        VectorSet {
-            bits: Bits256::ALL,
-        }
+        VectorSet { bits: Bits256::ALL }
     }
 
     pub fn has(self, v: u8) -> bool
