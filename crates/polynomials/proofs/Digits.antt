@@ -14,6 +14,7 @@ use Rattle.polynomials.specs.Sets.{_⊕_, bitAt, setBelow}
 
 -- ---- bit operations
 
+-- a binary digit is below 2
 no-digit : {A : Type 0} {x : ℕ} → suc (suc x) < 2 → A
 no-digit h = absurd (not-suc-le-zero (le-of-suc-le-suc (le-of-suc-le-suc h)))
 
@@ -29,6 +30,7 @@ module _ (op : ℕ → ℕ → ℕ) (f : Bool → Bool → Bool)
       ∙ ap (λ (x : ℕ). eqb x 1) (low-digits (a / 2 ^ i) (b / 2 ^ i) 1)
       ∙ both (a / 2 ^ i % 2) (b / 2 ^ i % 2) (mod-lt (a / 2 ^ i) (omega arith)) (mod-lt (b / 2 ^ i) (omega arith))
 
+-- the three operations on two digits
 or-digits : (x y : ℕ) → x < 2 → y < 2 → eqb (bitOr x y) 1 ≡ (eqb x 1 || eqb y 1)
 or-digits zero y h l = refl
 or-digits (suc zero) zero h l = refl
@@ -50,6 +52,7 @@ xor-digits (suc zero) (suc zero) h l = refl
 xor-digits (suc zero) (suc (suc y)) h l = no-digit l
 xor-digits (suc (suc x)) y h l = no-digit h
 
+-- and so on numbers
 pub bit-or : (i a b : ℕ) → bitAt i (bitOr a b) ≡ (bitAt i a || bitAt i b)
 bit-or = by-digits bitOr _||_ or-shr or-mod or-digits
 
@@ -61,6 +64,7 @@ bit-xor = by-digits bitXor _⊕_ xor-shr xor-mod xor-digits
 
 -- ---- high and low digits
 
+-- a number has no bit above its size
 pub bit-small : (i s : ℕ) → s < 2 ^ i → bitAt i s ≡ false
 unfolding bitAt
 bit-small i s h = ap (λ (x : ℕ). eqb (x % 2) 1) (div-eq-of-lt h)
@@ -88,6 +92,7 @@ shl-low i k a h =
     ∙ ap (λ (x : ℕ). eqb (x % 2) 1) (shl-shr (a * 2 ^ suc (k - suc i)) i)
     ∙ ap (λ (x : ℕ). eqb x 1) (shifted-even a (k - suc i))
 
+-- and above k its bits are those of a
 pub shl-high : (j k a : ℕ) → bitAt (k + j) (a * 2 ^ k) ≡ bitAt j a
 unfolding bitAt
 shl-high j k a =
@@ -116,6 +121,7 @@ bit-pow i j =
 pub bit-low : (i n q r : ℕ) → i < n → r < 2 ^ n → bitAt i (q * 2 ^ n + r) ≡ bitAt i r
 bit-low i n q r h l = sym (bit-mod i n (q * 2 ^ n + r) h) ∙ ap (bitAt i) (low q n l)
 
+-- and from bit n on those of q
 pub bit-high : (j n q r : ℕ) → r < 2 ^ n → bitAt (n + j) (q * 2 ^ n + r) ≡ bitAt j q
 unfolding bitAt
 bit-high j n q r l =
@@ -124,18 +130,22 @@ bit-high j n q r l =
 
 -- ---- one more digit, b, at place n above r
 
+-- the number r with bit n added
 abbrev pub put : ℕ → Bool → ℕ → ℕ
 put n b r = cond b (2 ^ n) 0 + r
 
+-- as a quotient and a rest
 put-is : (n : ℕ) (b : Bool) (r : ℕ) → put n b r ≡ cond b 1 0 * 2 ^ n + r
 put-is n true r = ap (λ (x : ℕ). x + r) (sym (one-mul (2 ^ n)))
 put-is n false r = ap (λ (x : ℕ). x + r) (sym (zero-mul (2 ^ n)))
 
+-- the lowest bit of a digit
 digit-is : (b : Bool) → bitAt 0 (cond b 1 0) ≡ b
 unfolding bitAt
 digit-is true = refl
 digit-is false = refl
 
+-- below n the bits are those of r, and bit n is b
 pub put-low : (i n : ℕ) (b : Bool) (r : ℕ) → i < n → r < 2 ^ n → bitAt i (put n b r) ≡ bitAt i r
 put-low i n b r h l = ap (bitAt i) (put-is n b r) ∙ bit-low i n (cond b 1 0) r h l
 
@@ -143,9 +153,11 @@ pub put-high : (n : ℕ) (b : Bool) (r : ℕ) → r < 2 ^ n → bitAt n (put n b
 put-high n b r l =
     ap₂ bitAt (sym (add-zero n)) (put-is n b r) ∙ bit-high 0 n (cond b 1 0) r l ∙ digit-is b
 
+-- a power of two and the next
 pub double : (n : ℕ) → 2 ^ suc n ≡ 2 ^ n + 2 ^ n
 double n = omega (arith, pow-suc 2 n)
 
+-- with bit n the number is below the next power
 pub put-lt : (n : ℕ) (b : Bool) (r : ℕ) → r < 2 ^ n → put n b r < 2 ^ suc n
 put-lt n true r l = omega (arith, double n)
 put-lt n false r l = omega (arith, double n)
@@ -160,11 +172,13 @@ put-all n v h = go (cases-lt v (2 ^ n))
 
 -- ---- the number of a set
 
+-- a set of n has a number below 2 ^ n
 pub set-lt : (n : ℕ) (f : ℕ → Bool) → setBelow n f < 2 ^ n
 unfolding setBelow
 set-lt zero f = omega arith
 set-lt (suc n) f = put-lt n (f n) (setBelow n f) (set-lt n f)
 
+-- its bits are what it was made from
 pub bit-set : (n i : ℕ) (f : ℕ → Bool) → i < n → bitAt i (setBelow n f) ≡ f i
 unfolding setBelow
 bit-set zero i f h = absurd (omega arith)
@@ -174,12 +188,14 @@ bit-set (suc n) i f h =
     put-low i n (f n) (setBelow n f) l (set-lt n f) ∙ bit-set n i f l)
     (cases-eq i n)
 
+-- equal bits, equal numbers
 pub set-cong : (n : ℕ) (f g : ℕ → Bool) → ((k : ℕ) → k < n → f k ≡ g k) → setBelow n f ≡ setBelow n g
 unfolding setBelow
 set-cong zero f g h = refl
 set-cong (suc n) f g h =
     ap₂ (λ (b : Bool) (r : ℕ). put n b r) (h n (omega arith)) (set-cong n f g (λ k l. h k (omega arith)))
 
+-- the loop that makes such a number: at its start,
 pub set-none : (f : ℕ → Bool) → 0 ≡ setBelow 0 f
 unfolding setBelow
 set-none f = refl
@@ -194,6 +210,7 @@ set-more i w f h e t =
     ∙ ap (λ (b : Bool). put i b (setBelow i f)) (sym t)
     ∙ ap (λ (k : ℕ). setBelow k f) (sym (add-one i))
 
+-- and where bit i is not set
 pub set-skip : (i w : ℕ) (f : ℕ → Bool) → w ≡ setBelow i f → f i ≡ false → w ≡ setBelow (i + 1) f
 unfolding setBelow
 set-skip i w f e t =

@@ -23,12 +23,14 @@ pub tested : (x k : ℕ) → eqb (bitAnd (x / 2 ^ k) 1) 1 ≡ bitAt k x
 unfolding bitAt
 tested x k = ap (λ (n : ℕ). eqb n 1) (and-mask (x / 2 ^ k) 1)
 
+-- bit s stands in word s / 64
 pub place : (x : Bits256) (s q k : ℕ) → s / 64 ≡ q → s % 64 ≡ k → holds x s ≡ bitAt k (wordOf x q)
 unfolding holds
 place x s q k e f = ap₂ (λ (i j : ℕ). bitAt i (wordOf x j)) f e
 
 -- ---- no bit, and all bits
 
+-- no bit is set where all words are 0
 pub none-held : (s : ℕ) → holds noBits s ≡ false
 unfolding holds
 none-held s = ap (bitAt (s % 64)) (words (s / 64)) ∙ bit-zero (s % 64)
@@ -45,9 +47,11 @@ all-set : allBelow 64 (λ k. bitAt k 18446744073709551615) ≡ true
 unfolding allBelow bitAt
 all-set = refl
 
+-- every bit set
 abbrev pub allBits : Bits256
 allBits = record { a = 18446744073709551615; b = 18446744073709551615; c = 18446744073709551615; d = 18446744073709551615 }
 
+-- all 256 bits are set where all words are full
 pub all-held : (s : ℕ) → s < 256 → holds allBits s ≡ true
 unfolding holds
 all-held s l =
@@ -67,6 +71,7 @@ module _ (op : ℕ → ℕ → ℕ) (f : Bool → Bool → Bool) (on-bits : (i a
   each-word : (x y : Bits256) → Bits256
   each-word x y = record { a = op (x .a) (y .a); b = op (x .b) (y .b); c = op (x .c) (y .c); d = op (x .d) (y .d) }
 
+  -- word by word
   words-of : op 0 0 ≡ 0 → (x y : Bits256) (q : ℕ) → wordOf (each-word x y) q ≡ op (wordOf x q) (wordOf y q)
   unfolding each-word
   words-of z x y zero = refl
@@ -75,6 +80,7 @@ module _ (op : ℕ → ℕ → ℕ) (f : Bool → Bool → Bool) (on-bits : (i a
   words-of z x y (suc (suc (suc zero))) = refl
   words-of z x y (suc (suc (suc (suc q)))) = sym z
 
+  -- bit by bit
   pub by-each-word : op 0 0 ≡ 0 → (x y : Bits256) (s : ℕ)
       → holds (record { a = op (x .a) (y .a); b = op (x .b) (y .b); c = op (x .c) (y .c); d = op (x .d) (y .d) }) s ≡ f (holds x s) (holds y s)
   unfolding holds each-word
@@ -87,6 +93,7 @@ module _ (op : ℕ → ℕ → ℕ) (f : Bool → Bool → Bool) (on-bits : (i a
       on-bits j x ((1 * 2 ^ k) % 2 ^ 64)
       ∙ ap (f (bitAt j x)) (bit-mod j 64 (1 * 2 ^ k) h ∙ ap (bitAt j) (one-mul (2 ^ k)) ∙ bit-pow k j)
 
+  -- in one word, equal bits are equal places
   same-test : (s t : ℕ) → s / 64 ≡ t / 64 → eqb (s % 64) (t % 64) ≡ eqb s t
   same-test s t q =
       ⊎-elim (λ (e : s ≡ t). eq-eqb (s % 64) (t % 64) (omega arith) ∙ sym (eq-eqb s t e))
@@ -116,12 +123,14 @@ module _ (op : ℕ → ℕ → ℕ) (f : Bool → Bool → Bool) (on-bits : (i a
 
 -- ---- words compared
 
+-- words of 64 bits
 pub record Fit (x : Bits256) : Type 0 where
   pub a-fits : x .a < 2 ^ 64
   pub b-fits : x .b < 2 ^ 64
   pub c-fits : x .c < 2 ^ 64
   pub d-fits : x .d < 2 ^ 64
 
+-- each word is below 2 ^ 64
 word-fits : (x : Bits256) → Fit x → (q : ℕ) → wordOf x q < 2 ^ 64
 word-fits x f zero = f .a-fits
 word-fits x f (suc zero) = f .b-fits
@@ -143,6 +152,7 @@ pub record Compares (x y : Bits256) (r : Bool) : Type 0 where
   pub equal : Decides r (x ≡ y)
   pub bits : Decides r ((s : ℕ) → s < 256 → holds x s ≡ holds y s)
 
+-- from what the test of the fields says
 pub compares : (x y : Bits256) → Fit x → Fit y → (r : Bool)
     → (r ≡ true → (x .a ≡ y .a) × (x .b ≡ y .b) × (x .c ≡ y .c) × (x .d ≡ y .d))
     → (x .a ≡ y .a → x .b ≡ y .b → x .c ≡ y .c → x .d ≡ y .d → r ≡ true) → Compares x y r

@@ -9,13 +9,10 @@ use Rattle.std.proofs.shelf.Tests.{eq-eqb, ne-eqb, cases-eq, and-parts}
 use mathlib.Core.Logic.{_⊎_, inl, inr, ⊎-elim}
 use Rattle.polynomials.specs.Sets.{_⊕_, xorBelow, allBelow}
 
+-- exclusive or is a commutative group, and `and` distributes over it
 pub xor-false : (a : Bool) → (a ⊕ false) ≡ a
 xor-false true = refl
 xor-false false = refl
-
-pub xor-self : (a : Bool) → (a ⊕ a) ≡ false
-xor-self true = refl
-xor-self false = refl
 
 pub xor-comm : (a b : Bool) → (a ⊕ b) ≡ (b ⊕ a)
 xor-comm true true = refl
@@ -39,26 +36,31 @@ pub and-xor : (a b c : Bool) → (a && (b ⊕ c)) ≡ ((a && b) ⊕ (a && c))
 and-xor true b c = refl
 and-xor false b c = refl
 
+-- equal terms, equal sums
 pub sum-cong : (n : ℕ) (f g : ℕ → Bool) → ((k : ℕ) → k < n → f k ≡ g k) → xorBelow n f ≡ xorBelow n g
 unfolding xorBelow
 sum-cong zero f g h = refl
 sum-cong (suc n) f g h = ap₂ _⊕_ (sum-cong n f g (λ k l. h k (omega arith))) (h n (omega arith))
 
+-- nothing adds up to nothing
 pub sum-none : (n : ℕ) → xorBelow n (λ k. false) ≡ false
 unfolding xorBelow
 sum-none zero = refl
 sum-none (suc n) = xor-false (xorBelow n (λ k. false)) ∙ sum-none n
 
+-- the sum of sums, term by term
 pub sum-add : (n : ℕ) (f g : ℕ → Bool) → xorBelow n (λ k. f k ⊕ g k) ≡ (xorBelow n f ⊕ xorBelow n g)
 unfolding xorBelow
 sum-add zero f g = refl
 sum-add (suc n) f g =
     ap (λ (x : Bool). x ⊕ (f n ⊕ g n)) (sum-add n f g) ∙ xor-swap (xorBelow n f) (xorBelow n g) (f n) (g n)
 
+-- a common factor
 pub sum-scale : (n : ℕ) (b : Bool) (f : ℕ → Bool) → xorBelow n (λ k. b && f k) ≡ (b && xorBelow n f)
 sum-scale n true f = refl
 sum-scale n false f = sum-none n
 
+-- sums in either order
 pub sum-swap : (m n : ℕ) (f : ℕ → ℕ → Bool)
     → xorBelow m (λ a. xorBelow n (λ b. f a b)) ≡ xorBelow n (λ b. xorBelow m (λ a. f a b))
 unfolding xorBelow
@@ -73,6 +75,7 @@ sum-past n m f h =
     (λ k l. ap (λ (x : Bool). x && f k) (ne-eqb m k (λ e. omega arith)))
     ∙ sum-none n
 
+-- so the sum is the term at m
 pub sum-pick : (n m : ℕ) (f : ℕ → Bool) → m < n → xorBelow n (λ s. eqb m s && f s) ≡ f m
 unfolding xorBelow
 sum-pick zero m f h = absurd (omega arith)
@@ -85,6 +88,7 @@ sum-pick (suc n) m f h = go (λ l. sum-pick n m f l) (cases-eq m n)
     go ih (inr d) =
         ap₂ (λ (x y : Bool). x ⊕ (y && f n)) (ih (omega arith)) (ne-eqb m n d) ∙ xor-false (f m)
 
+-- the first m terms, and the next n
 pub sum-split : (m n : ℕ) (f : ℕ → Bool) → xorBelow (m + n) f ≡ (xorBelow m f ⊕ xorBelow n (λ k. f (m + k)))
 unfolding xorBelow
 sum-split m zero f = ap (λ (k : ℕ). xorBelow k f) (add-zero m) ∙ sym (xor-false (xorBelow m f))
@@ -92,11 +96,13 @@ sum-split m (suc n) f =
     ap (λ (k : ℕ). xorBelow k f) (add-suc m n) ∙ ap (λ (x : Bool). x ⊕ f (m + n)) (sum-split m n f)
     ∙ xor-assoc (xorBelow m f) (xorBelow n (λ k. f (m + k))) (f (m + n))
 
+-- equal tests, equal answers
 pub all-cong : (n : ℕ) (f g : ℕ → Bool) → ((k : ℕ) → k < n → f k ≡ g k) → allBelow n f ≡ allBelow n g
 unfolding allBelow
 all-cong zero f g h = refl
 all-cong (suc n) f g h = ap₂ _&&_ (all-cong n f g (λ k l. h k (omega arith))) (h n (omega arith))
 
+-- where all hold, each holds
 pub all-at : (n : ℕ) (f : ℕ → Bool) → allBelow n f ≡ true → (k : ℕ) → k < n → f k ≡ true
 unfolding allBelow
 all-at zero f e k l = absurd (omega arith)
@@ -104,6 +110,7 @@ all-at (suc n) f e k l =
     let both = and-parts (allBelow n f) (f n) e in
     ⊎-elim (λ (x : k ≡ n). ap f x ∙ both .1) (λ d. all-at n f (both .0) k (omega arith)) (cases-eq k n)
 
+-- both hold of all where each holds of all
 pub all-and : (n : ℕ) (f g : ℕ → Bool) → allBelow n (λ i. f i && g i) ≡ (allBelow n f && allBelow n g)
 unfolding allBelow
 all-and zero f g = refl
@@ -116,11 +123,13 @@ all-and (suc n) f g =
     and-swap true false false d = refl
     and-swap false b c d = refl
 
+-- the test of equality either way round
 pub eqb-comm : (a b : ℕ) → eqb a b ≡ eqb b a
 eqb-comm a b =
     ⊎-elim (λ (e : a ≡ b). eq-eqb a b e ∙ sym (eq-eqb b a (sym e))) (λ d. ne-eqb a b d ∙ sym (ne-eqb b a (λ e. d (sym e))))
     (cases-eq a b)
 
+-- where each holds, all hold
 pub all-true : (n : ℕ) (f : ℕ → Bool) → ((k : ℕ) → k < n → f k ≡ true) → allBelow n f ≡ true
 unfolding allBelow
 all-true zero f h = refl

@@ -9,25 +9,29 @@ use lib.Dec.{eqb}
 use lib.Pow.{pow-lt, pow-mono}
 use Rattle.std.proofs.shelf.Bits.{one-shl}
 use Rattle.std.proofs.shelf.Tests.{cases-lt, ne-eqb}
-use Rattle.polynomials.specs.Sets.{xorBelow, allBelow, setBelow, bitAt, inSet, within}
+use Rattle.polynomials.specs.Sets.{xorBelow, allBelow, setBelow, bitAt, within}
 use Rattle.polynomials.specs.Polynomial.{Polynomial, one, variable, sum, product, productOver, substitute, valueIn, value, step}
 use Rattle.polynomials.specs.Laws as laws
 use Rattle.polynomials.proofs.Sums.{sum-cong, sum-scale, sum-swap, sum-pick, all-cong, all-and, all-pick, all-true, eqb-comm}
 use Rattle.polynomials.proofs.Digits.{bit-or, bit-set, bit-pow, bit-zero, bit-small}
 use Rattle.polynomials.proofs.Values.{in-cong, in-sum, in-scale, in-back, in-nothing}
 
+-- the value of a sum is the exclusive or of the values
 pub value-sum : laws.Value-sum
 unfolding sum
 value-sum P Q v = in-sum 8 P Q v
 
+-- the transform is its own inverse
 pub value-value : laws.Value-value
 value-value P s h = in-back 8 P s h
 
+-- so equal values come from equal terms
 pub unique : laws.Unique
 unique P Q same s h = sym (in-back 8 P s h) ∙ in-cong 8 (value P) (value Q) s same ∙ in-back 8 Q s h
 
 -- ---- a sum of polynomials
 
+-- the value of a sum of n polynomials
 pub value-total : (n : ℕ) (F : ℕ → Polynomial) (v : ℕ) → value (λ s. xorBelow n (λ t. F t s)) v ≡ xorBelow n (λ t. value (F t) v)
 unfolding valueIn
 value-total n F v =
@@ -42,6 +46,7 @@ value-term m v h =
     sum-cong 256 (λ s. within 8 s v && eqb m s) (λ s. eqb m s && within 8 s v) (λ s l. and-comm (within 8 s v) (eqb m s))
     ∙ sum-pick 256 m (λ s. within 8 s v) h
 
+-- a union lies in v where both sets do
 within-or : (t u v : ℕ) → within 8 (bitOr t u) v ≡ (within 8 t v && within 8 u v)
 unfolding within
 within-or t u v =
@@ -55,11 +60,13 @@ within-or t u v =
     each true false c = sym (and-true c)
     each false b c = refl
 
+-- two tests and two coefficients, by pairs
 regroup : (a b p q : Bool) → ((p && q) && (a && b)) ≡ ((a && p) && (b && q))
 regroup true true p q = and-true (p && q)
 regroup true false p q = and-false (p && q) ∙ sym (and-false p)
 regroup false b p q = and-false (p && q)
 
+-- the value of a product: over all pairs of terms, the union lies in v where both do
 pub value-product : laws.Value-product
 unfolding product
 value-product P Q v =
@@ -89,6 +96,7 @@ value-product P Q v =
 
 -- ---- one, and a variable
 
+-- the empty set lies in every vector
 pub value-one : laws.Value-one
 unfolding one
 value-one v =
@@ -97,6 +105,7 @@ value-one v =
     none : within 8 0 v ≡ true
     none = unfold within in all-true 8 (λ i. not (bitAt i 0) || bitAt i v) (λ i l. ap (λ (x : Bool). not x || bitAt i v) (bit-zero i))
 
+-- the set of one variable lies in v where that variable does
 lone : (i v : ℕ) → i < 8 → within 8 (2 ^ i) v ≡ bitAt i v
 unfolding within
 lone i v h =
@@ -121,6 +130,7 @@ variable-none zero s out l = refl
 variable-none (suc i) s (inl e) l = absurd (omega arith)
 variable-none (suc i) s (inr h) l = let m : s < 2 ^ i = past-last i s (omega arith) l in sym (ne-eqb s (2 ^ i) (λ e. omega arith))
 
+-- the value of a variable is its bit in the vector
 pub value-variable : laws.Value-variable
 unfolding variable
 value-variable zero v l = in-nothing 8 v
@@ -135,10 +145,12 @@ value-variable (suc i) v l =
 
 -- ---- substitution
 
+-- a factor that may be left out
 value-picked : (b : Bool) (P Q : Polynomial) (v : ℕ) → value (cond b (product P Q) P) v ≡ (value P v && (not b || value Q v))
 value-picked true P Q v = value-product P Q v
 value-picked false P Q v = sym (and-true (value P v))
 
+-- the value of a product over a set: each variable in the set has the value 1
 value-over : (P : ℕ → Polynomial) (n s v : ℕ) → value (productOver P n s) v ≡ allBelow n (λ i. not (bitAt i s) || value (P i) v)
 unfolding productOver allBelow
 value-over P zero s v = value-one v
@@ -146,12 +158,14 @@ value-over P (suc n) s v =
     value-picked (bitAt n s) (productOver P n s) (P n) v
     ∙ ap (λ (x : Bool). x && (not (bitAt n s) || value (P n) v)) (value-over P n s v)
 
+-- which says that the set lies in the vector of those values
 within-step : (P : ℕ → Polynomial) (s v : ℕ) → allBelow 8 (λ i. not (bitAt i s) || value (P i) v) ≡ within 8 s (step P v)
 unfolding within step
 within-step P s v =
     all-cong 8 (λ i. not (bitAt i s) || value (P i) v) (λ i. not (bitAt i s) || bitAt i (setBelow 8 (λ k. value (P k) v)))
     (λ i l. ap (λ (x : Bool). not (bitAt i s) || x) (sym (bit-set 8 i (λ k. value (P k) v) l)))
 
+-- so each term of R has the value that it has at that vector
 pub value-substitute : laws.Value-substitute
 unfolding substitute
 value-substitute R P v =

@@ -11,11 +11,13 @@ use Rattle.polynomials.proofs.Digits.{put, put-low, put-high, put-all, bit-sma
 
 -- ---- laws in n variables
 
+-- equal terms, equal values
 pub in-cong : (n : ℕ) (P Q : Polynomial) (v : ℕ) → ((s : ℕ) → s < 2 ^ n → P s ≡ Q s) → valueIn n P v ≡ valueIn n Q v
 unfolding valueIn
 in-cong n P Q v h =
     sum-cong (2 ^ n) (λ s. within n s v && P s) (λ s. within n s v && Q s) (λ s l. ap (λ (x : Bool). within n s v && x) (h s l))
 
+-- the value of a sum
 pub in-sum : (n : ℕ) (P Q : Polynomial) (v : ℕ) → valueIn n (λ s. P s ⊕ Q s) v ≡ (valueIn n P v ⊕ valueIn n Q v)
 unfolding valueIn
 in-sum n P Q v =
@@ -23,10 +25,12 @@ in-sum n P Q v =
     (λ s l. and-xor (within n s v) (P s) (Q s))
     ∙ sum-add (2 ^ n) (λ s. within n s v && P s) (λ s. within n s v && Q s)
 
+-- `and` in either order
 swap-and : (a b c : Bool) → (a && (b && c)) ≡ (b && (a && c))
 swap-and true b c = refl
 swap-and false b c = sym (and-false b)
 
+-- a common factor
 pub in-scale : (n : ℕ) (b : Bool) (P : Polynomial) (v : ℕ) → valueIn n (λ s. b && P s) v ≡ (b && valueIn n P v)
 unfolding valueIn
 in-scale n b P v =
@@ -35,6 +39,7 @@ in-scale n b P v =
 
 -- ---- by halves
 
+-- a set below 2 ^ n does not have the highest variable, and one from there on does
 top-low : (n s w : ℕ) → s < 2 ^ n → within (suc n) s w ≡ within n s w
 unfolding within allBelow
 top-low n s w h =
@@ -73,6 +78,7 @@ in-bits n P u v same =
     (all-cong n (λ i. not (bitAt i s) || bitAt i u) (λ i. not (bitAt i s) || bitAt i v)
     (λ i k. ap (λ (x : Bool). not (bitAt i s) || x) (same i k))))
 
+-- so a bit above them may be anything
 in-low : (n : ℕ) (P : Polynomial) (b : Bool) (v : ℕ) → v < 2 ^ n → valueIn n P (put n b v) ≡ valueIn n P v
 in-low n P b v l = in-bits n P (put n b v) v (λ i k. put-low i n b v k l)
 
@@ -86,20 +92,24 @@ in-halves n P b v l =
 
 -- ---- the terms are the values of the values
 
+-- the higher half is added twice, which is nothing
 meet : (b : Bool) (p q : Bool) → (p ⊕ (b && (p ⊕ q))) ≡ cond b q p
 meet true true true = refl
 meet true true false = refl
 meet true false q = refl
 meet false p q = xor-false p
 
+-- the term of the half that b says
 which : (n : ℕ) (P : Polynomial) (b : Bool) (r : ℕ) → cond b (P (2 ^ n + r)) (P r) ≡ P (put n b r)
 which n P true r = refl
 which n P false r = ap P (sym (zero-add r))
 
+-- in no variables the value is the constant term
 pub in-none : (P : Polynomial) (v : ℕ) → valueIn 0 P v ≡ P 0
 unfolding valueIn within xorBelow allBelow
 in-none P v = refl
 
+-- by halves: the values of the values are the terms
 pub in-back : (n : ℕ) (P : Polynomial) (v : ℕ) → v < 2 ^ n → valueIn n (valueIn n P) v ≡ P v
 in-back zero P v h = in-none (valueIn 0 P) v ∙ in-none P 0 ∙ ap P (sym (lt-one h))
 in-back (suc n) P v h =
@@ -120,5 +130,6 @@ in-back (suc n) P v h =
     ∙ which n P b r
     ∙ ap P e
 
+-- the polynomial with no terms has the value 0
 pub in-nothing : (n w : ℕ) → valueIn n (λ s. false) w ≡ false
 in-nothing n w = in-scale n false (λ s. false) w

@@ -1,5 +1,5 @@
 -- A polynomial's value from the values of its four words: the two highest variables say which words count.
-use mathlib.Core.Path.{_≡_, refl, sym, ap, ap₂, subst, _∙_}
+use mathlib.Core.Path.{_≡_, sym, ap, ap₂, subst, _∙_}
 use mathlib.Core.Bool.{Bool, true, false, _&&_}
 use Prim.Native.Nat.{ℕ, _+_, _<_}
 use native.Mathlib.Omega.{arith}
@@ -21,6 +21,7 @@ mixed p q a b c d = (a ⊕ (q && b)) ⊕ (p && (c ⊕ (q && d)))
 abbrev pub wordPoly : Bits256 → ℕ → Polynomial
 wordPoly x q s = bitAt s (wordOf x q)
 
+-- by halves on the highest variable, and each half on the next
 pub four-words : (x : Bits256) (u : ℕ)
     → value (holds x) u
     ≡ mixed (bitAt 7 u) (bitAt 6 u) (valueIn 6 (wordPoly x 0) u) (valueIn 6 (wordPoly x 1) u) (valueIn 6 (wordPoly x 2) u) (valueIn 6 (wordPoly x 3) u)
@@ -43,6 +44,7 @@ module _ (x : Bits256) (a b c d : ℕ)
     (second : (k : ℕ) → k < 64 → bitAt k b ≡ valueIn 6 (wordPoly x 1) k)
     (third : (k : ℕ) → k < 64 → bitAt k c ≡ valueIn 6 (wordPoly x 2) k)
     (fourth : (k : ℕ) → k < 64 → bitAt k d ≡ valueIn 6 (wordPoly x 3) k) where
+  -- the four words that the code makes
   out : Bits256
   out = record { a = a; b = bitXor a b; c = bitXor a c; d = bitXor (bitXor a b) (bitXor c d) }
 
@@ -60,6 +62,7 @@ module _ (x : Bits256) (a b c d : ℕ)
       place out (put 7 true (put 6 true k)) 3 k (omega arith) (omega arith)
       ∙ bit-xor k (bitXor a b) (bitXor c d) ∙ ap₂ _⊕_ (bit-xor k a b) (bit-xor k c d)
 
+  -- each has the value at its place
   at-place : (p q : Bool) (k : ℕ) → k < 64 → holds out (put 7 p (put 6 q k)) ≡ value (holds x) (put 7 p (put 6 q k))
   at-place p q k l =
       let u : ℕ = put 7 p (put 6 q k) in
@@ -73,6 +76,7 @@ module _ (x : Bits256) (a b c d : ℕ)
       ∙ sym (four-words x u
       ∙ (λ i. mixed (seventh i) (sixth i) (low (wordPoly x 0) i) (low (wordPoly x 1) i) (low (wordPoly x 2) i) (low (wordPoly x 3) i)))
 
+  -- and every place below 256 is such a place
   pub transformed-is : (v : ℕ) → v < 256
       → holds (record { a = a; b = bitXor a b; c = bitXor a c; d = bitXor (bitXor a b) (bitXor c d) }) v ≡ value (holds x) v
   unfolding out

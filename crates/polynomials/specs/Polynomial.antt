@@ -1,7 +1,7 @@
 -- Polynomials over the two-element field in eight variables, as exclusive-or sums of products, no product twice. Assumes nothing.
 -- A product of variables goes by the number of their set, so that product 0 is the constant 1, and a polynomial says of each number
 -- below 256 whether that product is one of its terms.
-use mathlib.Core.Bool.{Bool, true, false, _&&_, cond}
+use mathlib.Core.Bool.{Bool, false, _&&_, cond}
 use Prim.Native.Nat.{ℕ, zero, suc, _^_}
 use lib.Bits.{bitOr}
 use lib.Dec.{eqb}

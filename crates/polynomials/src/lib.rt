@@ -15,3 +15,5 @@ pub use theorems::back_to_products;
 pub use theorems::back_to_values;
 pub use theorems::laws;
 pub use vectors::VectorSet;
+pub use vectors::VectorSetEq;
+pub use vectors::VectorSetPartialEq;

@@ -6,10 +6,10 @@ ghost use lib.Dec.{eqb};
 ghost use Rattle.std.specs.Orderings.{Decides};
 ghost use Rattle.polynomials.specs.Held.{terms, vectors};
 ghost use Rattle.polynomials.specs.Polynomial.{value, one as oneTerm, variable as alone, sum as summed, product as multiplied};
-ghost use Rattle.polynomials.specs.Sets.{_⊕_};
+ghost use Rattle.polynomials.specs.Sets.{_⊕_, inSet};
 use super::bits::Bits256;
+use super::bits::Bits256PartialEq;
 use super::vectors::VectorSet;
-use crate::bits::Bits256PartialEq;
 
 #[derive(Clone, Copy, PartialEq, Eq)]
 pub struct Residual {
@@ -35,7 +35,8 @@ impl Residual {
 
     // Variable i, counted from 1. There are eight: any other number gives the constant 0.
     pub fn variable(i: u8) -> Residual
-        ensures { λ r. ⌜ ((s : ℕ) → s < 256 → terms r s ≡ alone i s) ⌝ }
+        ensures products { λ r. ⌜ ((s : ℕ) → s < 256 → terms r s ≡ alone i s) ⌝ }
+        ensures values { λ r. ⌜ ((v : ℕ) → v < 256 → value (terms r) v ≡ inSet i v) ⌝ }
     {
         if i == 0 || i > 8 {
             Residual::zero()

@@ -1,7 +1,7 @@
 // A set of vectors, which are values of the eight variables: bit v says whether the vector with number v is in it. A truth
 // table is the set of the vectors at which the value is 1.
 ghost use mathlib.Core.Path.{_≡_};
-ghost use mathlib.Core.Bool.{Bool, true, false, not, _&&_, _||_};
+ghost use mathlib.Core.Bool.{true, false, not, _&&_, _||_};
 ghost use Prim.Native.Nat.{ℕ, _<_};
 ghost use lib.Dec.{eqb};
 ghost use Rattle.std.specs.Orderings.{Decides};
@@ -9,8 +9,8 @@ ghost use Rattle.polynomials.specs.Held.{terms, vectors};
 ghost use Rattle.polynomials.specs.Polynomial.{Polynomial, value};
 ghost use Rattle.polynomials.specs.Sets.{_⊕_};
 use super::bits::Bits256;
+use super::bits::Bits256PartialEq;
 use super::residual::Residual;
-use crate::bits::Bits256PartialEq;
 
 #[derive(Clone, Copy, PartialEq, Eq)]
 pub struct VectorSet {

@@ -1,6 +1,5 @@
 use mathlib.Core.Path.{_≡_, sym}
 use native.Mathlib.Omega.{arith}
-use Rattle.polynomials.specs.declared.bits.Bits256.{Bits256}
 use Rattle.polynomials.specs.Held.{terms}
 use Rattle.polynomials.proofs.FourWords.{equal-bits}
 use Rattle.polynomials.proofs.theorems.back_to_products.Needs as need

@@ -1,6 +1,5 @@
-use mathlib.Core.Path.{_≡_, ap}
+use mathlib.Core.Path.{ap}
 use Rattle.polynomials.specs.declared.bits.Bits256.{Bits256}
-use Rattle.polynomials.specs.declared.residual.Residual.{Residual}
 use Rattle.polynomials.specs.Held.{terms, holds}
 use Rattle.polynomials.specs.Polynomial.{value}
 use Rattle.polynomials.proofs.Valued.{unique}

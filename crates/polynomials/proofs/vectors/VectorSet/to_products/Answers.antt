@@ -1,5 +1,5 @@
 use mathlib.Core.Path.{_∙_, sym}
-use Rattle.polynomials.specs.Held.{terms, vectors}
+use Rattle.polynomials.specs.Held.{vectors}
 use Rattle.polynomials.specs.Polynomial.{value}
 use Rattle.polynomials.proofs.Valued.{value-value}
 use Rattle.polynomials.proofs.Values.{in-cong}
