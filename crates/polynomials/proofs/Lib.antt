@@ -1,0 +1,9 @@
+pub mod Digits
+pub mod FourWords
+pub mod Halves
+pub mod Stages
+pub mod Stored
+pub mod Sums
+pub mod Valued
+pub mod Values
+pub mod WordByWord
