@@ -34,7 +34,7 @@ fn turned(sign: Sign) -> Sign {
     }
 }
 
-pub fn changed(claim: Claim, change: Change) -> Claim {
+pub(crate) fn changed(claim: Claim, change: Change) -> Claim {
     let mut c = claim;
     match change {
         Change::PlaceUp => c.place = c.place.wrapping_add(1),

@@ -55,14 +55,14 @@ impl Bits256 {
     }
 
     // Whether bit s is set.
-    pub fn has(self, s: u8) -> bool
+    pub(crate) fn has(self, s: u8) -> bool
         ensures { λ r. ⌜ r ≡ holds self s ⌝ }
     {
         (self.word(s / 64) >> (s % 64)) & 1 == 1
     }
 
     // The same with bit s turned.
-    pub fn flip(self, s: u8) -> Bits256
+    pub(crate) fn flip(self, s: u8) -> Bits256
         ensures { λ r. ⌜ ((t : ℕ) → holds r t ≡ (holds self t ⊕ eqb s t)) ⌝ }
     {
         let x = self.word(s / 64) ^ (1 << (s % 64));
@@ -70,14 +70,14 @@ impl Bits256 {
     }
 
     // The same with bit s set.
-    pub fn with(self, s: u8) -> Bits256
+    pub(crate) fn with(self, s: u8) -> Bits256
         ensures { λ r. ⌜ ((t : ℕ) → holds r t ≡ (holds self t || eqb s t)) ⌝ }
     {
         let x = self.word(s / 64) | (1 << (s % 64));
         self.with_word(s / 64, x)
     }
 
-    pub fn xor(self, other: Bits256) -> Bits256
+    pub(crate) fn xor(self, other: Bits256) -> Bits256
         ensures { λ r. ⌜ ((s : ℕ) → holds r s ≡ (holds self s ⊕ holds other s)) ⌝ }
     {
         Bits256 {
@@ -88,7 +88,7 @@ impl Bits256 {
         }
     }
 
-    pub fn and(self, other: Bits256) -> Bits256
+    pub(crate) fn and(self, other: Bits256) -> Bits256
         ensures { λ r. ⌜ ((s : ℕ) → holds r s ≡ (holds self s && holds other s)) ⌝ }
     {
         Bits256 {
@@ -99,7 +99,7 @@ impl Bits256 {
         }
     }
 
-    pub fn or(self, other: Bits256) -> Bits256
+    pub(crate) fn or(self, other: Bits256) -> Bits256
         ensures { λ r. ⌜ ((s : ℕ) → holds r s ≡ (holds self s || holds other s)) ⌝ }
     {
         Bits256 {
@@ -111,7 +111,7 @@ impl Bits256 {
     }
 
     // Whether the two have the same bits, which is whether they are equal.
-    pub fn same(self, other: Bits256) -> bool
+    pub(crate) fn same(self, other: Bits256) -> bool
         ensures equal { λ r. ⌜ Decides r (self ≡ other) ⌝ }
         ensures bits { λ r. ⌜ Decides r ((s : ℕ) → s < 256 → holds self s ≡ holds other s) ⌝ }
     {

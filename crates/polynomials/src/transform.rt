@@ -29,7 +29,7 @@ fn word_values(x: u64) -> u64
 
 impl Bits256 {
     // The two highest variables say which word.
-    pub fn transformed(self) -> Bits256
+    pub(crate) fn transformed(self) -> Bits256
         ensures { λ r. ⌜ ((v : ℕ) → v < 256 → holds r v ≡ value (holds self) v) ⌝ }
     {
         let a = word_values(self.a);
