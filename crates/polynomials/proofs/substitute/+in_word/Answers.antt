@@ -13,8 +13,8 @@ pub returns-then-n-eq0 : goal.returns-then-n-eq0
 returns-then-n-eq0 t c v l =
     c.full.ensures v l ∙ sym (word_one c.args.n c.args.w _ (omega arith) (omega arith) (λ e. omega arith))
 
-pub in-word-high-requires : goal.in-word-high-requires
-in-word-high-requires t c = (
+pub in_word-high-requires : goal.in_word-high-requires
+in_word-high-requires t c = (
   omega arith,
   (
     omega arith,
@@ -27,8 +27,8 @@ returns t c v l =
     let m : ℕ = c.args.n - 1 in
     let f : ℕ → Bool = λ i. vectors_of c.args.tables.now i v in
     let u : ℕ = set_below 8 f in
-    c.symmetric-difference.ensures v
+    c.symmetric_difference.ensures v
     ∙ ap₂ ◌⊕◌
-    (c.in-word-low.ensures v l ∙ ap (λ (x : ℕ). value_in m (λ s. bit_at s x) u) c.low-bits.ensures)
-    (c.intersection.ensures v ∙ ap₂ ◌&&◌ (sym (bit_set 8 m f (omega arith))) (c.in-word-high.ensures v l))
+    (c.in_word-low.ensures v l ∙ ap (λ (x : ℕ). value_in m (λ s. bit_at s x) u) c.low_bits.ensures)
+    (c.intersection.ensures v ∙ ap₂ ◌&&◌ (sym (bit_set 8 m f (omega arith))) (c.in_word-high.ensures v l))
     ∙ sym (word_halves c.args.n m c.power-half.result c.args.w u (omega arith) (omega arith))

@@ -24,8 +24,8 @@ returns c =
     let long : length (table_letters a) ≡ a.count = length-take-le a.count a.letters (omega arith) in
     let most = place_le (table_letters a) w in
     let least : a.count ≤ place (names_in a) w = omega arith in
-    let y = c.letter-at.result in
-    let e = c.letter-at.ensures in
+    let y = c.letter_at.result in
+    let e = c.letter_at.ensures in
     let more = take_more_set a.letters a.count y room ∙ ap (λ z. table_letters a ++ z ∷ []) e in
     record {
       is = sym (ap (λ z. place (names_of z) w) more ∙ place_new (table_letters a) x (omega arith) ∙ long);

@@ -7,154 +7,154 @@ use Rattle.rules.proofs.Fronts.{is_sign, shorter_between, shorter_before, shorte
 use Rattle.rules.proofs.Levels.{behind_between, name_parsed, truth_parsed, before_parsed, group_parsed, start, rank_next, no_rank, Side, side_shorter, turn_on}
 use Rattle.rules.proofs.Steps.{later, at_once, at_bad, full_name, full_truth, full_before, full_between, many_names, too_deep, no_operand, behind_before, behind_open}
 use Rattle.rules.proofs.parse.+level_operand_tighter.Goals as goal
-use Rattle.rules.proofs.parse.+level_operand_tighter.Goals.{level-then-to-right+in-ok-level, level-else-to-right+in-ok-right}
+use Rattle.rules.proofs.parse.+level_operand_tighter.Goals.{level-Then-to_right+in_ok-level, level-Else-to_right+in_ok-right}
 
 -- LEVEL
 
-pub level-returns-in-err-m : goal.level-returns-in-err-m
-level-returns-in-err-m t c =
-    let so = c.loop-m.invariant c.args.table.now (start c.in-ok-left.ensures) in
-    let p = err_from_is_err_and c.from-residual-in-err-m.result c.from-residual-in-err-m.ensures.1 in
-    rw (p.1, p.2) (later so.parsed.scans (at_bad {s = c.loop-m.rest.now} _ c.in-err-m.ensures))
+pub level-returns-in_err-m : goal.level-returns-in_err-m
+level-returns-in_err-m t c =
+    let so = c.loop-m.invariant c.args.table.now (start c.in_ok-left.ensures) in
+    let p = err_from_is_err_and c.from_residual-in_err-m.result c.from_residual-in_err-m.ensures.1 in
+    rw (p.1, p.2) (later so.parsed.scans (at_bad {s = c.loop-m.rest.now} _ c.in_err-m.ensures))
 
-pub level-returns-in-default : goal.level-returns-in-default
-level-returns-in-default t c =
-    let so = c.loop-m.invariant c.args.table.now (start c.in-ok-left.ensures) in
-    (so.parsed, omega (arith, rank_next c.loop-m.rest.now c.in-ok-m.ensures, no_rank c.in-ok-m.m c.in-default.not-Between))
+pub level-returns-in_default : goal.level-returns-in_default
+level-returns-in_default t c =
+    let so = c.loop-m.invariant c.args.table.now (start c.in_ok-left.ensures) in
+    (so.parsed, omega (arith, rank_next c.loop-m.rest.now c.in_ok-m.ensures, no_rank c.in_ok-m.m c.in_default.not-Between))
 
 pub level-returns-then-rank-k : goal.level-returns-then-rank-k
 level-returns-then-rank-k t c =
-    let so = c.loop-m.invariant c.args.table.now (start c.in-ok-left.ensures) in
-    let e = is_sign c.in-ok-m.ensures c.in-Between.is in
+    let so = c.loop-m.invariant c.args.table.now (start c.in_ok-left.ensures) in
+    let e = is_sign c.in_ok-m.ensures c.in-Between.is in
     (so.parsed, omega (arith, rank_next c.loop-m.rest.now e, so.below))
 
-pub level-overflow-add-table : goal.level-overflow-add-table
-level-overflow-add-table t c =
-    let so = c.loop-m.invariant c.args.table.now (start c.in-ok-left.ensures) in
+pub level-overflow_add-table : goal.level-overflow_add-table
+level-overflow_add-table t c =
+    let so = c.loop-m.invariant c.args.table.now (start c.in_ok-left.ensures) in
     record { fits = omega (arith, so.parsed.fits) }
 
-pub level-returns-in-err-room : goal.level-returns-in-err-room
-level-returns-in-err-room t c =
-    let so = c.loop-m.invariant c.args.table.now (start c.in-ok-left.ensures) in
-    let e = is_sign c.in-ok-m.ensures c.in-Between.is in
-    let p = err_from_is_err_and c.from-residual-in-err-room.result c.from-residual-in-err-room.ensures.1 in
-    rw (p.1, p.2) (later so.parsed.scans (full_between c.loop-m.rest.now c.in-ok-m.after.now c.args.depth (c.loop-m.table.size + c.args.pending) (names_in c.loop-m.table) e c.in-err-room.ensures))
+pub level-returns-in_err-room : goal.level-returns-in_err-room
+level-returns-in_err-room t c =
+    let so = c.loop-m.invariant c.args.table.now (start c.in_ok-left.ensures) in
+    let e = is_sign c.in_ok-m.ensures c.in-Between.is in
+    let p = err_from_is_err_and c.from_residual-in_err-room.result c.from_residual-in_err-room.ensures.1 in
+    rw (p.1, p.2) (later so.parsed.scans (full_between c.loop-m.rest.now c.in_ok-m.after.now c.args.depth (c.loop-m.table.size + c.args.pending) (names_in c.loop-m.table) e c.in_err-room.ensures))
 
 pub level-level-requires : goal.level-level-requires
 level-level-requires t c =
-    let so = c.loop-m.invariant c.args.table.now (start c.in-ok-left.ensures) in
-    let e = is_sign c.in-ok-m.ensures c.in-Between.is in
-    omega (arith, shorter_between c.loop-m.rest.now e, so.parsed.shorter, c.in-ok-room.ensures)
+    let so = c.loop-m.invariant c.args.table.now (start c.in_ok-left.ensures) in
+    let e = is_sign c.in_ok-m.ensures c.in-Between.is in
+    omega (arith, shorter_between c.loop-m.rest.now e, so.parsed.shorter, c.in_ok-room.ensures)
 
-pub level-returns-in-err-level : goal.level-returns-in-err-level
-level-returns-in-err-level t c =
-    let so = c.loop-m.invariant c.args.table.now (start c.in-ok-left.ensures) in
-    let e = is_sign c.in-ok-m.ensures c.in-Between.is in
-    let p = err_from_is_err_and c.from-residual-in-err-level.result c.from-residual-in-err-level.ensures.1 in
-    rw (p.1, p.2) (behind_between so.parsed e c.in-ok-room.ensures c.in-err-level.ensures)
+pub level-returns-in_err-level : goal.level-returns-in_err-level
+level-returns-in_err-level t c =
+    let so = c.loop-m.invariant c.args.table.now (start c.in_ok-left.ensures) in
+    let e = is_sign c.in_ok-m.ensures c.in-Between.is in
+    let p = err_from_is_err_and c.from_residual-in_err-level.result c.from_residual-in_err-level.ensures.1 in
+    rw (p.1, p.2) (behind_between so.parsed e c.in_ok-room.ensures c.in_err-level.ensures)
 
-pub level-tighter-requires-else-to-right : goal.level-tighter-requires-else-to-right
-level-tighter-requires-else-to-right t c =
-    let so = c.loop-m.invariant c.args.table.now (start c.in-ok-left.ensures) in
-    let e = is_sign c.in-ok-m.ensures c.in-Between.is in
-    omega (arith, shorter_between c.loop-m.rest.now e, so.parsed.shorter, c.in-ok-room.ensures)
+pub level-tighter-requires-else-to_right : goal.level-tighter-requires-else-to_right
+level-tighter-requires-else-to_right t c =
+    let so = c.loop-m.invariant c.args.table.now (start c.in_ok-left.ensures) in
+    let e = is_sign c.in_ok-m.ensures c.in-Between.is in
+    omega (arith, shorter_between c.loop-m.rest.now e, so.parsed.shorter, c.in_ok-room.ensures)
 
-pub level-returns-in-err-right : goal.level-returns-in-err-right
-level-returns-in-err-right t c =
-    let so = c.loop-m.invariant c.args.table.now (start c.in-ok-left.ensures) in
-    let e = is_sign c.in-ok-m.ensures c.in-Between.is in
-    let p = err_from_is_err_and c.from-residual-in-err-right.result c.from-residual-in-err-right.ensures.1 in
-    rw (p.1, p.2) (behind_between so.parsed e c.in-ok-room.ensures c.in-err-right.ensures)
+pub level-returns-in_err-right : goal.level-returns-in_err-right
+level-returns-in_err-right t c =
+    let so = c.loop-m.invariant c.args.table.now (start c.in_ok-left.ensures) in
+    let e = is_sign c.in_ok-m.ensures c.in-Between.is in
+    let p = err_from_is_err_and c.from_residual-in_err-right.result c.from_residual-in_err-right.ensures.1 in
+    rw (p.1, p.2) (behind_between so.parsed e c.in_ok-room.ensures c.in_err-right.ensures)
 
 -- both ways of the right side
-side : (t : ℕ) (c : goal.level-After-put-left t) → Side c.args.total c.in-Between.b c.args.k c.in-ok-m.after.now c.if-to-right.right.1.now c.args.depth (c.args.pending + 1) c.loop-m.table c.if-to-right.table c.if-to-right.right.0
+side : (t : ℕ) (c : goal.level-After-put-left t) → Side c.args.total c.in-Between.b c.args.k c.in_ok-m.after.now c.if-to_right.right.1.now c.args.depth (c.args.pending + 1) c.loop-m.table c.if-to_right.table c.if-to_right.right.0
 side t c =
-    elim c.if-to-right.branch [
-      | level-then-to-right+in-ok-level w ↦
-          inl (sym w.if-to-right.ensures, subst₂ (λ r u. Parsed c.args.total c.args.k c.in-ok-m.after.now r.1.now c.args.depth (c.args.pending + 1) c.loop-m.table u r.0 × (rank_at r.1.now < c.args.k)) (sym w.right-is) (sym w.table-is) w.in-ok-level.ensures)
-      | level-else-to-right+in-ok-right w ↦
-          inr (sym w.if-to-right.ensures, subst₂ (λ r u. Parsed c.args.total (suc c.args.k) c.in-ok-m.after.now r.1.now c.args.depth (c.args.pending + 1) c.loop-m.table u r.0 × (rank_at r.1.now < suc c.args.k)) (sym w.right-is) (sym w.table-is) w.in-ok-right.ensures)
+    elim c.if-to_right.branch [
+      | level-Then-to_right+in_ok-level w ↦
+          inl (sym w.if-to_right.ensures, subst₂ (λ r u. Parsed c.args.total c.args.k c.in_ok-m.after.now r.1.now c.args.depth (c.args.pending + 1) c.loop-m.table u r.0 × (rank_at r.1.now < c.args.k)) (sym w.right-is) (sym w.table-is) w.in_ok-level.ensures)
+      | level-Else-to_right+in_ok-right w ↦
+          inr (sym w.if-to_right.ensures, subst₂ (λ r u. Parsed c.args.total (suc c.args.k) c.in_ok-m.after.now r.1.now c.args.depth (c.args.pending + 1) c.loop-m.table u r.0 × (rank_at r.1.now < suc c.args.k)) (sym w.right-is) (sym w.table-is) w.in_ok-right.ensures)
     ]
 
 pub level-loop-m-smaller : goal.level-loop-m-smaller
 level-loop-m-smaller t c =
-    let e = is_sign c.in-ok-m.ensures c.in-Between.is in
+    let e = is_sign c.in_ok-m.ensures c.in-Between.is in
     omega (arith, shorter_between c.loop-m.rest.now e, side_shorter c.in-Between.b (side t c))
 
 pub level-loop-m-preserved : goal.level-loop-m-preserved
 level-loop-m-preserved t c = λ a s.
-    let e = is_sign c.in-ok-m.ensures c.in-Between.is in
-    turn_on (c.loop-m.invariant a s) e (sym c.rank.ensures ∙ c.if-rank-k.false) c.in-ok-room.ensures (side t c)
+    let e = is_sign c.in_ok-m.ensures c.in-Between.is in
+    turn_on (c.loop-m.invariant a s) e (sym c.rank.ensures ∙ c.if-rank-k.false) c.in_ok-room.ensures (side t c)
     c.put-left.ensures
 
 -- OPERAND
 
-pub operand-returns-in-err-m : goal.operand-returns-in-err-m
-operand-returns-in-err-m t c =
-    let p = err_from_is_err_and c.from-residual.result c.from-residual.ensures.1 in
-    rw (p.1, p.2) (at_bad _ c.in-err-m.ensures)
+pub operand-returns-in_err-m : goal.operand-returns-in_err-m
+operand-returns-in_err-m t c =
+    let p = err_from_is_err_and c.from_residual.result c.from_residual.ensures.1 in
+    rw (p.1, p.2) (at_bad _ c.in_err-m.ensures)
 
 pub operand-returns-in-err-room : goal.operand-returns-in-err-room
 operand-returns-in-err-room t c =
-    let p = err_from_is_err_and c.from-residual-in-err-room.result c.from-residual-in-err-room.ensures.1 in
-    rw (p.1, p.2) (full_name c.args.s.now c.in-ok-m.rest.now c.args.depth (c.args.table.now.size + c.args.pending) (names_in c.args.table.now) (is_sign c.in-ok-m.ensures c.in-Name.is) c.in-err-room.ensures)
+    let p = err_from_is_err_and c.from_residual-in_err-room.result c.from_residual-in_err-room.ensures.1 in
+    rw (p.1, p.2) (full_name c.args.s.now c.in_ok-m.rest.now c.args.depth (c.args.table.now.size + c.args.pending) (names_in c.args.table.now) (is_sign c.in_ok-m.ensures c.in-Name.is) c.in_err-room.ensures)
 
 pub operand-returns-in-err-room-2 : goal.operand-returns-in-err-room-2
 operand-returns-in-err-room-2 t c =
     let p = err_from_is_err_and c.from-residual-in-err-room-2.result c.from-residual-in-err-room-2.ensures.1 in
-    rw (p.1, p.2) (full_truth c.args.s.now c.in-ok-m.rest.now c.args.depth (c.args.table.now.size + c.args.pending) (names_in c.args.table.now) (is_sign c.in-ok-m.ensures c.in-Truth.is) c.in-err-room-2.ensures)
+    rw (p.1, p.2) (full_truth c.args.s.now c.in_ok-m.rest.now c.args.depth (c.args.table.now.size + c.args.pending) (names_in c.args.table.now) (is_sign c.in_ok-m.ensures c.in-Truth.is) c.In_err-room-2.ensures)
 
 pub operand-returns-in-err-room-3 : goal.operand-returns-in-err-room-3
 operand-returns-in-err-room-3 t c =
     let p = err_from_is_err_and c.from-residual-in-err-room-3.result c.from-residual-in-err-room-3.ensures.1 in
-    rw (p.1, p.2) (full_before c.args.s.now c.in-ok-m.rest.now c.args.depth (c.args.table.now.size + c.args.pending) (names_in c.args.table.now) (is_sign c.in-ok-m.ensures c.in-Before.is) c.in-err-room-3.ensures)
+    rw (p.1, p.2) (full_before c.args.s.now c.in_ok-m.rest.now c.args.depth (c.args.table.now.size + c.args.pending) (names_in c.args.table.now) (is_sign c.in_ok-m.ensures c.in-Before.is) c.in-err-room-3.ensures)
 
 pub operand-operand-requires : goal.operand-operand-requires
 operand-operand-requires t c =
-    omega (arith, shorter_before c.args.s.now (is_sign c.in-ok-m.ensures c.in-Before.is), c.in-ok-room-3.ensures)
+    omega (arith, shorter_before c.args.s.now (is_sign c.in_ok-m.ensures c.in-Before.is), c.in-ok-room-3.ensures)
 
 pub operand-returns-in-err-a : goal.operand-returns-in-err-a
 operand-returns-in-err-a t c =
     let p = err_from_is_err_and c.from-residual-in-err-a.result c.from-residual-in-err-a.ensures.1 in
-    rw (p.1, p.2) (behind_before c.args.s.now c.in-ok-m.rest.now c.args.depth c.args.table.now.size (names_in c.args.table.now) c.args.pending (is_sign c.in-ok-m.ensures c.in-Before.is) c.in-ok-room-3.ensures c.in-err-a.ensures)
+    rw (p.1, p.2) (behind_before c.args.s.now c.in_ok-m.rest.now c.args.depth c.args.table.now.size (names_in c.args.table.now) c.args.pending (is_sign c.in_ok-m.ensures c.in-Before.is) c.in-ok-room-3.ensures c.in-err-a.ensures)
 
 pub operand-returns-then-depth-eq-DEPTH : goal.operand-returns-then-depth-eq-DEPTH
-operand-returns-then-depth-eq-DEPTH t c = too_deep c.args.s.now c.in-ok-m.rest.now c.args.depth (c.args.table.now.size + c.args.pending) (names_in c.args.table.now) (is_sign c.in-ok-m.ensures c.in-Open.is) (omega arith) c.stop-at.ensures
+operand-returns-then-depth-eq-DEPTH t c = too_deep c.args.s.now c.in_ok-m.rest.now c.args.depth (c.args.table.now.size + c.args.pending) (names_in c.args.table.now) (is_sign c.in_ok-m.ensures c.in-Open.is) (omega arith) c.stop_at.ensures
 
 pub operand-level-requires : goal.operand-level-requires
-operand-level-requires t c = omega (arith, shorter_open c.args.s.now (is_sign c.in-ok-m.ensures c.in-Open.is))
+operand-level-requires t c = omega (arith, shorter_open c.args.s.now (is_sign c.in_ok-m.ensures c.in-Open.is))
 
 pub operand-returns-in-err-a-2 : goal.operand-returns-in-err-a-2
 operand-returns-in-err-a-2 t c =
     let p = err_from_is_err_and c.from-residual-in-err-a-2.result c.from-residual-in-err-a-2.ensures.1 in
-    rw (p.1, p.2) (behind_open c.args.s.now c.in-ok-m.rest.now c.args.depth (c.args.table.now.size + c.args.pending) (names_in c.args.table.now) (is_sign c.in-ok-m.ensures c.in-Open.is) (omega arith) c.in-err-a-2.ensures)
+    rw (p.1, p.2) (behind_open c.args.s.now c.in_ok-m.rest.now c.args.depth (c.args.table.now.size + c.args.pending) (names_in c.args.table.now) (is_sign c.in_ok-m.ensures c.in-Open.is) (omega arith) c.in-err-a-2.ensures)
 
 pub operand-returns-in-err-after : goal.operand-returns-in-err-after
 operand-returns-in-err-after t c =
     let p = err_from_is_err_and c.from-residual-in-err-after.result c.from-residual-in-err-after.ensures.1 in
-    rw (p.1, p.2) (behind_open c.args.s.now c.in-ok-m.rest.now c.args.depth (c.args.table.now.size + c.args.pending) (names_in c.args.table.now) (is_sign c.in-ok-m.ensures c.in-Open.is) (omega arith) (later c.in-ok-a-2.ensures.0.scans (at_once (c.in-err-after.ensures _))))
+    rw (p.1, p.2) (behind_open c.args.s.now c.in_ok-m.rest.now c.args.depth (c.args.table.now.size + c.args.pending) (names_in c.args.table.now) (is_sign c.in_ok-m.ensures c.in-Open.is) (omega arith) (later c.in-ok-a-2.ensures.0.scans (at_once (c.in-err-after.ensures _))))
 
 pub operand-returns-in-err-i : goal.operand-returns-in-err-i
 operand-returns-in-err-i t c =
     let p = err_from_is_err_and c.from-residual-in-err-i.result c.from-residual-in-err-i.ensures.1 in
-    rw (p.1, p.2) (many_names c.args.s.now c.in-ok-m.rest.now c.args.depth (c.args.table.now.size + c.args.pending) (names_in c.args.table.now) (is_sign c.in-ok-m.ensures c.in-Name.is) c.in-ok-room.ensures c.in-err-i.ensures)
+    rw (p.1, p.2) (many_names c.args.s.now c.in_ok-m.rest.now c.args.depth (c.args.table.now.size + c.args.pending) (names_in c.args.table.now) (is_sign c.in_ok-m.ensures c.in-Name.is) c.in_ok-room.ensures c.in-err-i.ensures)
 
 pub operand-returns-in-ok-i : goal.operand-returns-in-ok-i
 operand-returns-in-ok-i t c =
-    name_parsed (is_sign c.in-ok-m.ensures c.in-Name.is) c.in-ok-room.ensures c.in-ok-i.ensures c.put.ensures
+    name_parsed (is_sign c.in_ok-m.ensures c.in-Name.is) c.in_ok-room.ensures c.in-ok-i.ensures c.put.ensures
 
 pub operand-returns-in-ok-room-2 : goal.operand-returns-in-ok-room-2
 operand-returns-in-ok-room-2 t c =
-    truth_parsed (is_sign c.in-ok-m.ensures c.in-Truth.is) c.in-ok-room-2.ensures c.requires.few c.put-in-Truth.ensures
+    truth_parsed (is_sign c.in_ok-m.ensures c.in-Truth.is) c.In_ok-room-2.ensures c.requires.few c.put-in-Truth.ensures
 
 pub operand-returns-in-ok-a : goal.operand-returns-in-ok-a
 operand-returns-in-ok-a t c =
-    before_parsed (is_sign c.in-ok-m.ensures c.in-Before.is) c.in-ok-room-3.ensures c.in-ok-a.ensures c.put-in-Before.ensures
+    before_parsed (is_sign c.in_ok-m.ensures c.in-Before.is) c.in-ok-room-3.ensures c.in-ok-a.ensures c.put-in-Before.ensures
 
 pub operand-returns-in-ok-after : goal.operand-returns-in-ok-after
 operand-returns-in-ok-after t c =
-    group_parsed (is_sign c.in-ok-m.ensures c.in-Open.is) (omega arith) c.in-ok-a-2.ensures.0 c.in-ok-after.ensures
+    group_parsed (is_sign c.in_ok-m.ensures c.in-Open.is) (omega arith) c.in-ok-a-2.ensures.0 c.in-ok-after.ensures
 
-pub operand-returns-in-default : goal.operand-returns-in-default
-operand-returns-in-default t c =
-    no_operand c.args.s.now c.in-ok-m.rest.now c.args.depth (c.args.table.now.size + c.args.pending) (names_in c.args.table.now) c.in-ok-m.ensures c.stop-at-in-default.ensures c.in-default.not-Before c.in-default.not-Truth c.in-default.not-Name c.in-default.not-Open
+pub operand-returns-in_default : goal.operand-returns-in_default
+operand-returns-in_default t c =
+    no_operand c.args.s.now c.in_ok-m.rest.now c.args.depth (c.args.table.now.size + c.args.pending) (names_in c.args.table.now) c.in_ok-m.ensures c.stop_at-in_default.ensures c.in_default.not-Before c.in_default.not-Truth c.in_default.not-Name c.in_default.not-Open

@@ -8,5 +8,5 @@ use Rattle.polynomials.proofs.bits.Bits256.flip.Goals as goal
 
 pub returns : goal.returns
 returns c t =
-    one_changed bit_xor ◌⊕◌ bit_xor_lem xor_false c.args.self c.with-word.result c.args.s c.word.result t
-    c.word.ensures (c.with-word.ensures (t / 64))
+    one_changed bit_xor ◌⊕◌ bit_xor_lem xor_false c.args.self c.with_word.result c.args.s c.word.result t
+    c.word.ensures (c.with_word.ensures (t / 64))

@@ -9,7 +9,7 @@ pub returns : goal.returns
 returns c =
     let P = terms c.args.self in
     let Q = terms c.args.other in
-    let exact : (s : ℕ) → s < 256 → terms c.to-products.result s ≡ product P Q s
-    = c.to-products.ensures.only (product P Q) (λ v l.
-    value_product P Q v ∙ sym (c.intersection.ensures v ∙ ap₂ ◌&&◌ (c.to-values.ensures v l) (c.to-values-2.ensures v l))) in
+    let exact : (s : ℕ) → s < 256 → terms c.to_products.result s ≡ product P Q s
+    = c.to_products.ensures.only (product P Q) (λ v l.
+    value_product P Q v ∙ sym (c.intersection.ensures v ∙ ap₂ ◌&&◌ (c.to_values.ensures v l) (c.to_values-2.ensures v l))) in
     record { products = exact; values = λ v. in_cong 8 _ (product P Q) v exact ∙ value_product P Q v }

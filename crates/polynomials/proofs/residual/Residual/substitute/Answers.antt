@@ -9,6 +9,6 @@ pub returns : goal.returns
 returns c =
     let R : Polynomial = terms c.args.self in
     let P : ℕ → Polynomial = terms_of c.args.by.now in
-    let exact : (s : ℕ) → s < 256 → terms c.substitute-values.result s ≡ substitute R P s
-    = c.substitute-values.ensures P c.all-values-tables.ensures in
+    let exact : (s : ℕ) → s < 256 → terms c.substitute_values.result s ≡ substitute R P s
+    = c.substitute_values.ensures P c.all_values-tables.ensures in
     record { products = exact; values = λ v. in_cong 8 _ (substitute R P) v exact ∙ value_substitute R P v }

@@ -4,8 +4,8 @@ use Rattle.rules.specs.Tree.{fits, node_at, decode, flatten}
 use Rattle.rules.specs.declared.node.Node.{Node}
 use Rattle.rules.proofs.rule.Rule.new.Goals as goal
 
-pub invariant-of-result : goal.invariant-of-result
-invariant-of-result c =
+pub invariant_of-result : goal.invariant_of-result
+invariant_of-result c =
     let t = c.verum.result in
     let s = c.verum.ensures.size in
     let k = c.verum.ensures.count in (

@@ -5,14 +5,14 @@ use Rattle.rules.proofs.OneTree.{one_tree}
 use Rattle.rules.proofs.Outcome.{too_long, stopped, no_fault, built_flat, built_whole, reads_all}
 use Rattle.rules.proofs.rule.Rule.read.Goals as goal
 
-pub returns-then-text-gt-TEXT-BYTES : goal.returns-then-text-gt-TEXT-BYTES
-returns-then-text-gt-TEXT-BYTES c =
-    let e = too_long c.args.text.now c.if-text-gt-TEXT-BYTES.true in
+pub returns-then-text-gt-TEXT_BYTES : goal.returns-then-text-gt-TEXT_BYTES
+returns-then-text-gt-TEXT_BYTES c =
+    let e = too_long c.args.text.now c.if-text-gt-TEXT_BYTES.true in
     let is = ap (λ o. answer o tt) (sym e) in
     record { answers = is; leaves = rw e refl; one_tree = one_tree; reads_all = reads_all is }
 
-pub invariant-of-self : goal.invariant-of-self
-invariant-of-self c =
+pub invariant_of-self : goal.invariant_of-self
+invariant_of-self c =
     let w = c.in-Ok.ensures in
     let b = c.in-Ok.table in
     let room : b.count ≤ length b.letters = search rules in
@@ -23,13 +23,13 @@ pub returns-in-Ok : goal.returns-in-Ok
 returns-in-Ok c =
     let w = c.in-Ok.ensures in
     let b = c.in-Ok.table in
-    let e = no_fault c.args.text.now b c.if-text-gt-TEXT-BYTES.false w in
+    let e = no_fault c.args.text.now b c.if-text-gt-TEXT_BYTES.false w in
     let space : b.size ≤ length b.nodes = search rules in
     let is = ap (λ o. answer o tt) (sym e) in
     record { answers = is; leaves = rw e (built_whole _ w space); one_tree = one_tree; reads_all = reads_all is }
 
 pub returns-in-Err : goal.returns-in-Err
 returns-in-Err c =
-    let e = stopped c.args.text.now c.in-Err.stop c.if-text-gt-TEXT-BYTES.false c.in-Err.ensures ∙ ap Some (sym c.fault.ensures) in
+    let e = stopped c.args.text.now c.in-Err.stop c.if-text-gt-TEXT_BYTES.false c.in-Err.ensures ∙ ap Some (sym c.fault.ensures) in
     let is = ap (λ o. answer o tt) (sym e) in
     record { answers = is; leaves = rw e refl; one_tree = one_tree; reads_all = reads_all is }
