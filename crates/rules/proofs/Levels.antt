@@ -12,7 +12,6 @@ use Rattle.rules.specs.declared.node.Unary.{Unary}
 use Rattle.rules.specs.declared.node.Binary.{Binary}
 use Rattle.rules.specs.declared.node.Binary.TheVariants.{Until, And, Xor, Or, Implies, Iff}
 use Rattle.rules.specs.declared.node.Node.{Node}
-use Rattle.rules.specs.declared.rule.Letter.{Letter}
 use Rattle.rules.specs.declared.rule.Table.{Table}
 use Rattle.rules.specs.declared.sign.Sign.{Sign}
 use Rattle.rules.specs.declared.sign.Sign.TheVariants.{Before, Between, Truth, Open, Close, End}

@@ -1,5 +1,5 @@
 -- The numbers of letters by first appearance. Assumes nothing.
-use Rattle.std.proofs.Common.{◌≡◌, ℕ, suc, ◌+◌, ◌-◌, ◌<◌, ◌≤◌, true, false, cond, ltb, List, [], ◌∷◌, ◌++◌, length, get_or, take, drop, set, sym, refl, ap, ◌∙◌, subst, ⊎_elim, add-one, arith, drop-cons}
+use Rattle.std.proofs.Common.{◌≡◌, ℕ, suc, ◌+◌, ◌<◌, ◌≤◌, true, false, cond, ltb, List, [], ◌∷◌, ◌++◌, length, get_or, take, drop, set, sym, refl, ap, ◌∙◌, subst, ⊎_elim, add-one, arith, drop-cons}
 use Rattle.std.proofs.lemmas.List.{drop_all, append-nil, append_assoc, map-append, length-map, length-take-le, take_more_set, length-append, length_push}
 use Rattle.std.proofs.lemmas.Bool.{cond-true, cond-false, cond_both, lt-ltb, le-ltb, ltb-true, ltb-false, cases_Bool}
 use Rattle.rules.specs.Names.{spelled, same_name, names_of, place, added, noted, gather, numbered, table_letters, names_in}

@@ -1,4 +1,6 @@
 // Rules of linear temporal logic on finite traces: the text of a rule, and the table of nodes that it is read into.
+#![tactic(auto)]
+
 mod access;
 mod class;
 mod fault;

@@ -7,7 +7,7 @@ use Rattle.rules.proofs.Fronts.{is_sign, shorter_between, shorter_before, shorte
 use Rattle.rules.proofs.Levels.{behind_between, name_parsed, truth_parsed, before_parsed, group_parsed, start, rank_next, no_rank, Side, side_shorter, turn_on}
 use Rattle.rules.proofs.Steps.{later, at_once, at_bad, full_name, full_truth, full_before, full_between, many_names, too_deep, no_operand, behind_before, behind_open}
 use Rattle.rules.proofs.parse.+level_operand_tighter.Goals as goal
-use Rattle.rules.proofs.parse.+level_operand_tighter.Goals.{level-Then-to_right+in_ok-level, level-Else-to_right+in_ok-right}
+use Rattle.rules.proofs.parse.+level_operand_tighter.Goals.{level-then-to_right+in_ok-level, level-else-to_right+in_ok-right}
 
 -- LEVEL
 
@@ -70,9 +70,9 @@ level-returns-in_err-right t c =
 side : (t : ℕ) (c : goal.level-After-put-left t) → Side c.args.total c.in-Between.b c.args.k c.in_ok-m.after.now c.if-to_right.right.1.now c.args.depth (c.args.pending + 1) c.loop-m.table c.if-to_right.table c.if-to_right.right.0
 side t c =
     elim c.if-to_right.branch [
-      | level-Then-to_right+in_ok-level w ↦
+      | level-then-to_right+in_ok-level w ↦
           inl (sym w.if-to_right.ensures, subst₂ (λ r u. Parsed c.args.total c.args.k c.in_ok-m.after.now r.1.now c.args.depth (c.args.pending + 1) c.loop-m.table u r.0 × (rank_at r.1.now < c.args.k)) (sym w.right-is) (sym w.table-is) w.in_ok-level.ensures)
-      | level-Else-to_right+in_ok-right w ↦
+      | level-else-to_right+in_ok-right w ↦
           inr (sym w.if-to_right.ensures, subst₂ (λ r u. Parsed c.args.total (suc c.args.k) c.in_ok-m.after.now r.1.now c.args.depth (c.args.pending + 1) c.loop-m.table u r.0 × (rank_at r.1.now < suc c.args.k)) (sym w.right-is) (sym w.table-is) w.in_ok-right.ensures)
     ]
 
@@ -94,29 +94,29 @@ operand-returns-in_err-m t c =
     let p = err_from_is_err_and c.from_residual.result c.from_residual.ensures.1 in
     rw (p.1, p.2) (at_bad _ c.in_err-m.ensures)
 
-pub operand-returns-in-err-room : goal.operand-returns-in-err-room
-operand-returns-in-err-room t c =
-    let p = err_from_is_err_and c.from_residual-in_err-room.result c.from_residual-in_err-room.ensures.1 in
-    rw (p.1, p.2) (full_name c.args.s.now c.in_ok-m.rest.now c.args.depth (c.args.table.now.size + c.args.pending) (names_in c.args.table.now) (is_sign c.in_ok-m.ensures c.in-Name.is) c.in_err-room.ensures)
+pub operand-returns-in_err-room-in-Name : goal.operand-returns-in_err-room-in-Name
+operand-returns-in_err-room-in-Name t c =
+    let p = err_from_is_err_and c.from_residual-in_err-room-in-Name.result c.from_residual-in_err-room-in-Name.ensures.1 in
+    rw (p.1, p.2) (full_name c.args.s.now c.in_ok-m.rest.now c.args.depth (c.args.table.now.size + c.args.pending) (names_in c.args.table.now) (is_sign c.in_ok-m.ensures c.in-Name.is) c.in_err-room-in-Name.ensures)
 
-pub operand-returns-in-err-room-2 : goal.operand-returns-in-err-room-2
-operand-returns-in-err-room-2 t c =
-    let p = err_from_is_err_and c.from-residual-in-err-room-2.result c.from-residual-in-err-room-2.ensures.1 in
-    rw (p.1, p.2) (full_truth c.args.s.now c.in_ok-m.rest.now c.args.depth (c.args.table.now.size + c.args.pending) (names_in c.args.table.now) (is_sign c.in_ok-m.ensures c.in-Truth.is) c.In_err-room-2.ensures)
+pub operand-returns-in_err-room-in-Truth : goal.operand-returns-in_err-room-in-Truth
+operand-returns-in_err-room-in-Truth t c =
+    let p = err_from_is_err_and c.from_residual-in_err-room-in-Truth.result c.from_residual-in_err-room-in-Truth.ensures.1 in
+    rw (p.1, p.2) (full_truth c.args.s.now c.in_ok-m.rest.now c.args.depth (c.args.table.now.size + c.args.pending) (names_in c.args.table.now) (is_sign c.in_ok-m.ensures c.in-Truth.is) c.in_err-room-in-Truth.ensures)
 
-pub operand-returns-in-err-room-3 : goal.operand-returns-in-err-room-3
-operand-returns-in-err-room-3 t c =
-    let p = err_from_is_err_and c.from-residual-in-err-room-3.result c.from-residual-in-err-room-3.ensures.1 in
-    rw (p.1, p.2) (full_before c.args.s.now c.in_ok-m.rest.now c.args.depth (c.args.table.now.size + c.args.pending) (names_in c.args.table.now) (is_sign c.in_ok-m.ensures c.in-Before.is) c.in-err-room-3.ensures)
+pub operand-returns-in_err-room-in-Before : goal.operand-returns-in_err-room-in-Before
+operand-returns-in_err-room-in-Before t c =
+    let p = err_from_is_err_and c.from_residual-in_err-room-in-Before.result c.from_residual-in_err-room-in-Before.ensures.1 in
+    rw (p.1, p.2) (full_before c.args.s.now c.in_ok-m.rest.now c.args.depth (c.args.table.now.size + c.args.pending) (names_in c.args.table.now) (is_sign c.in_ok-m.ensures c.in-Before.is) c.in_err-room-in-Before.ensures)
 
 pub operand-operand-requires : goal.operand-operand-requires
 operand-operand-requires t c =
-    omega (arith, shorter_before c.args.s.now (is_sign c.in_ok-m.ensures c.in-Before.is), c.in-ok-room-3.ensures)
+    omega (arith, shorter_before c.args.s.now (is_sign c.in_ok-m.ensures c.in-Before.is), c.in_ok-room-in-Before.ensures)
 
-pub operand-returns-in-err-a : goal.operand-returns-in-err-a
-operand-returns-in-err-a t c =
-    let p = err_from_is_err_and c.from-residual-in-err-a.result c.from-residual-in-err-a.ensures.1 in
-    rw (p.1, p.2) (behind_before c.args.s.now c.in_ok-m.rest.now c.args.depth c.args.table.now.size (names_in c.args.table.now) c.args.pending (is_sign c.in_ok-m.ensures c.in-Before.is) c.in-ok-room-3.ensures c.in-err-a.ensures)
+pub operand-returns-in_err-a-in-Before : goal.operand-returns-in_err-a-in-Before
+operand-returns-in_err-a-in-Before t c =
+    let p = err_from_is_err_and c.from_residual-in_err-a-in-Before.result c.from_residual-in_err-a-in-Before.ensures.1 in
+    rw (p.1, p.2) (behind_before c.args.s.now c.in_ok-m.rest.now c.args.depth c.args.table.now.size (names_in c.args.table.now) c.args.pending (is_sign c.in_ok-m.ensures c.in-Before.is) c.in_ok-room-in-Before.ensures c.in_err-a-in-Before.ensures)
 
 pub operand-returns-then-depth-eq-DEPTH : goal.operand-returns-then-depth-eq-DEPTH
 operand-returns-then-depth-eq-DEPTH t c = too_deep c.args.s.now c.in_ok-m.rest.now c.args.depth (c.args.table.now.size + c.args.pending) (names_in c.args.table.now) (is_sign c.in_ok-m.ensures c.in-Open.is) (omega arith) c.stop_at.ensures
@@ -124,36 +124,36 @@ operand-returns-then-depth-eq-DEPTH t c = too_deep c.args.s.now c.in_ok-m.rest.n
 pub operand-level-requires : goal.operand-level-requires
 operand-level-requires t c = omega (arith, shorter_open c.args.s.now (is_sign c.in_ok-m.ensures c.in-Open.is))
 
-pub operand-returns-in-err-a-2 : goal.operand-returns-in-err-a-2
-operand-returns-in-err-a-2 t c =
-    let p = err_from_is_err_and c.from-residual-in-err-a-2.result c.from-residual-in-err-a-2.ensures.1 in
-    rw (p.1, p.2) (behind_open c.args.s.now c.in_ok-m.rest.now c.args.depth (c.args.table.now.size + c.args.pending) (names_in c.args.table.now) (is_sign c.in_ok-m.ensures c.in-Open.is) (omega arith) c.in-err-a-2.ensures)
+pub operand-returns-in_err-a-in-Open : goal.operand-returns-in_err-a-in-Open
+operand-returns-in_err-a-in-Open t c =
+    let p = err_from_is_err_and c.from_residual-in_err-a-in-Open.result c.from_residual-in_err-a-in-Open.ensures.1 in
+    rw (p.1, p.2) (behind_open c.args.s.now c.in_ok-m.rest.now c.args.depth (c.args.table.now.size + c.args.pending) (names_in c.args.table.now) (is_sign c.in_ok-m.ensures c.in-Open.is) (omega arith) c.in_err-a-in-Open.ensures)
 
-pub operand-returns-in-err-after : goal.operand-returns-in-err-after
-operand-returns-in-err-after t c =
-    let p = err_from_is_err_and c.from-residual-in-err-after.result c.from-residual-in-err-after.ensures.1 in
-    rw (p.1, p.2) (behind_open c.args.s.now c.in_ok-m.rest.now c.args.depth (c.args.table.now.size + c.args.pending) (names_in c.args.table.now) (is_sign c.in_ok-m.ensures c.in-Open.is) (omega arith) (later c.in-ok-a-2.ensures.0.scans (at_once (c.in-err-after.ensures _))))
+pub operand-returns-in_err-after-in-Open : goal.operand-returns-in_err-after-in-Open
+operand-returns-in_err-after-in-Open t c =
+    let p = err_from_is_err_and c.from_residual-in_err-after-in-Open.result c.from_residual-in_err-after-in-Open.ensures.1 in
+    rw (p.1, p.2) (behind_open c.args.s.now c.in_ok-m.rest.now c.args.depth (c.args.table.now.size + c.args.pending) (names_in c.args.table.now) (is_sign c.in_ok-m.ensures c.in-Open.is) (omega arith) (later c.in_ok-a-in-Open.ensures.0.scans (at_once (c.in_err-after-in-Open.ensures _))))
 
-pub operand-returns-in-err-i : goal.operand-returns-in-err-i
-operand-returns-in-err-i t c =
-    let p = err_from_is_err_and c.from-residual-in-err-i.result c.from-residual-in-err-i.ensures.1 in
-    rw (p.1, p.2) (many_names c.args.s.now c.in_ok-m.rest.now c.args.depth (c.args.table.now.size + c.args.pending) (names_in c.args.table.now) (is_sign c.in_ok-m.ensures c.in-Name.is) c.in_ok-room.ensures c.in-err-i.ensures)
+pub operand-returns-in_err-i-in-Name : goal.operand-returns-in_err-i-in-Name
+operand-returns-in_err-i-in-Name t c =
+    let p = err_from_is_err_and c.from_residual-in_err-i-in-Name.result c.from_residual-in_err-i-in-Name.ensures.1 in
+    rw (p.1, p.2) (many_names c.args.s.now c.in_ok-m.rest.now c.args.depth (c.args.table.now.size + c.args.pending) (names_in c.args.table.now) (is_sign c.in_ok-m.ensures c.in-Name.is) c.in_ok-room-in-Name.ensures c.in_err-i-in-Name.ensures)
 
-pub operand-returns-in-ok-i : goal.operand-returns-in-ok-i
-operand-returns-in-ok-i t c =
-    name_parsed (is_sign c.in_ok-m.ensures c.in-Name.is) c.in_ok-room.ensures c.in-ok-i.ensures c.put.ensures
+pub operand-returns-in_ok-i-in-Name : goal.operand-returns-in_ok-i-in-Name
+operand-returns-in_ok-i-in-Name t c =
+    name_parsed (is_sign c.in_ok-m.ensures c.in-Name.is) c.in_ok-room-in-Name.ensures c.in_ok-i-in-Name.ensures c.put.ensures
 
-pub operand-returns-in-ok-room-2 : goal.operand-returns-in-ok-room-2
-operand-returns-in-ok-room-2 t c =
-    truth_parsed (is_sign c.in_ok-m.ensures c.in-Truth.is) c.In_ok-room-2.ensures c.requires.few c.put-in-Truth.ensures
+pub operand-returns-in_ok-room-in-Truth : goal.operand-returns-in_ok-room-in-Truth
+operand-returns-in_ok-room-in-Truth t c =
+    truth_parsed (is_sign c.in_ok-m.ensures c.in-Truth.is) c.in_ok-room-in-Truth.ensures c.requires.few c.put-in-Truth.ensures
 
-pub operand-returns-in-ok-a : goal.operand-returns-in-ok-a
-operand-returns-in-ok-a t c =
-    before_parsed (is_sign c.in_ok-m.ensures c.in-Before.is) c.in-ok-room-3.ensures c.in-ok-a.ensures c.put-in-Before.ensures
+pub operand-returns-in_ok-a-in-Before : goal.operand-returns-in_ok-a-in-Before
+operand-returns-in_ok-a-in-Before t c =
+    before_parsed (is_sign c.in_ok-m.ensures c.in-Before.is) c.in_ok-room-in-Before.ensures c.in_ok-a-in-Before.ensures c.put-in-Before.ensures
 
-pub operand-returns-in-ok-after : goal.operand-returns-in-ok-after
-operand-returns-in-ok-after t c =
-    group_parsed (is_sign c.in_ok-m.ensures c.in-Open.is) (omega arith) c.in-ok-a-2.ensures.0 c.in-ok-after.ensures
+pub operand-returns-in_ok-after-in-Open : goal.operand-returns-in_ok-after-in-Open
+operand-returns-in_ok-after-in-Open t c =
+    group_parsed (is_sign c.in_ok-m.ensures c.in-Open.is) (omega arith) c.in_ok-a-in-Open.ensures.0 c.in_ok-after-in-Open.ensures
 
 pub operand-returns-in_default : goal.operand-returns-in_default
 operand-returns-in_default t c =

@@ -17,7 +17,13 @@ invariant_of-self c =
     let b = c.in-Ok.table in
     let room : b.count ≤ length b.letters = search rules in
     let space : b.size ≤ length b.nodes = search rules in
-    (omega (arith, w.size-is, size_some w.tree), (w.fits, (w.few, (built_fits b w room, (∣ built_flat b w space ∣₁, tt)))))
+    record {
+      some = omega (arith, w.size_is, size_some w.tree);
+      few = w.fits;
+      known = w.few;
+      ok = built_fits b w room;
+      flat = ∣ built_flat b w space ∣₁;
+    }
 
 pub returns-in-Ok : goal.returns-in-Ok
 returns-in-Ok c =
