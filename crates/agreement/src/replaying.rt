@@ -13,7 +13,7 @@ pub fn replay<R: Reading + Drop>(
     calls: &[Call],
     answers: &mut [Result<Standing, Fault>],
 ) -> Standing
-    ensures { Agreement (subject_of meaning bound) calls.now answers.old answers.new result }
+    ensures { Agreement (subject_of R.meaning bound) calls.now answers.old answers.new result }
 {
     let mut monitor = Monitor::open(bound);
     for i in 0..calls.len() {

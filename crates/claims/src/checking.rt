@@ -86,7 +86,7 @@ fn claim_supported<R: Reading>(
 ) -> bool
     requires trace_len_bound { length trace.now ≤ 4095 }
     requires i_in_bounds { i < length claims.now }
-    ensures { result ≡ supported (case_of meaning bound.now trace.now) claims.now i (claim_at claims.now i) }
+    ensures { result ≡ supported (case_of R.meaning bound.now trace.now) claims.now i (claim_at claims.now i) }
 {
     let c = claims[i];
     if !claim_placed(trace.len(), bound.rule().nodes().len(), c) {
@@ -109,7 +109,7 @@ fn check_support<R: Reading>(
     claims: &[Claim],
 ) -> Result<(), Fault>
     requires { length trace.now ≤ 4095 }
-    ensures { result ≡ answer (unsupported (case_of meaning bound.now trace.now) claims.now) tt }
+    ensures { result ≡ answer (unsupported (case_of R.meaning bound.now trace.now) claims.now) tt }
 {
     for i in 0..claims.len() {
         if !claim_supported(bound, trace, claims, i) {
@@ -140,7 +140,7 @@ fn judge<R: Reading>(
 ) -> Result<YesNo, Fault>
     requires numbers_value { numbers.now ≡ numbers_of bound.now }
     requires m_value { m ≡ node_count bound.now.rule }
-    ensures { result ≡ checked (case_of meaning bound.now trace.now) claims.now }
+    ensures { result ≡ checked (case_of R.meaning bound.now trace.now) claims.now }
 {
     if trace.len() > MOST_EVENTS {
         return Err(Fault::ManyEvents);
@@ -160,10 +160,10 @@ pub fn check<R: Reading>(
     trace: &[u32],
     claims: &[Claim],
 ) -> Result<YesNo, Fault>
-    ensures answers { result ≡ checked (case_of meaning bound.now trace.now) claims.now }
-    ensures sound { Sound (case_of meaning bound.now trace.now) claims.now }
-    ensures exact { Exact (case_of meaning bound.now trace.now) }
-    ensures evaluated { Evaluated (case_of meaning bound.now trace.now) }
+    ensures answers { result ≡ checked (case_of R.meaning bound.now trace.now) claims.now }
+    ensures sound { Sound (case_of R.meaning bound.now trace.now) claims.now }
+    ensures exact { Exact (case_of R.meaning bound.now trace.now) }
+    ensures evaluated { Evaluated (case_of R.meaning bound.now trace.now) }
 {
     let numbers = bound.numbers();
     let m = bound.rule().nodes().len();

@@ -158,7 +158,7 @@ fn truth(value: bool) -> YesNo
 // Letter `l` at a place: off at the empty rest.
 fn letter<R: Reading>(bound: &BoundRule<R>, trace: &[u32], place: usize, l: u8) -> YesNo
     requires { l < letter_count bound.now.rule }
-    ensures { result ≡ letter_at (case_of meaning bound.now trace.now) place l }
+    ensures { result ≡ letter_at (case_of R.meaning bound.now trace.now) place l }
 {
     if place >= trace.len() {
         return YesNo::Broken;
@@ -180,7 +180,7 @@ pub(crate) fn ways<R: Reading>(
 ) -> Ways
     requires place_bound { place ≤ 4095 }
     requires own_bound { own < node_count bound.now.rule }
-    ensures { result ≡ ways_at (case_of meaning bound.now trace.now) place own sign }
+    ensures { result ≡ ways_at (case_of R.meaning bound.now trace.now) place own sign }
 {
     let event = place < trace.len();
     match bound.rule().nodes()[own] {

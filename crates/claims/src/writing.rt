@@ -92,9 +92,9 @@ fn sign_if(holds: bool) -> Sign
 // The claim at index `i`, from those before it: on node i % m, at the place that is i / m before the empty rest.
 fn next_claim<R: Reading>(bound: &BoundRule<R>, trace: &[u32], claims: &[Claim], i: usize) -> Claim
     requires trace_len_bound { length trace.now ≤ 4095 }
-    requires i_bound { i < claim_count (case_of meaning bound.now trace.now) }
+    requires i_bound { i < claim_count (case_of R.meaning bound.now trace.now) }
     requires i_in_bounds { i ≤ length claims.now }
-    ensures { result ≡ claim_next (case_of meaning bound.now trace.now) claims.now (length trace.now - i / node_count bound.now.rule) (i % node_count bound.now.rule) }
+    ensures { result ≡ claim_next (case_of R.meaning bound.now trace.now) claims.now (length trace.now - i / node_count bound.now.rule) (i % node_count bound.now.rule) }
 {
     let n = trace.len();
     let m = bound.rule().nodes().len();
@@ -113,8 +113,8 @@ pub fn write<R: Reading>(
     trace: &[u32],
     out: &mut [Claim],
 ) -> Result<usize, Fault>
-    ensures answers { result ≡ answer (unwritten (case_of meaning bound.now trace.now) (length out.old)) (claim_count (case_of meaning bound.now trace.now)) }
-    ensures leaves { Left (unwritten (case_of meaning bound.now trace.now) (length out.old)) (out.new ≡ out.old) (Written (case_of meaning bound.now trace.now) out.old out.new) }
+    ensures answers { result ≡ answer (unwritten (case_of R.meaning bound.now trace.now) (length out.old)) (claim_count (case_of R.meaning bound.now trace.now)) }
+    ensures leaves { Left (unwritten (case_of R.meaning bound.now trace.now) (length out.old)) (out.new ≡ out.old) (Written (case_of R.meaning bound.now trace.now) out.old out.new) }
 {
     let numbers = bound.numbers();
     let m = bound.rule().nodes().len();

@@ -46,8 +46,8 @@ impl<R: Reading> Monitor<R> {
     // A monitor with no events. Of a rule that the check refuses it monitors the constant `false`.
     pub fn open(bound: BoundRule<R>) -> Monitor<R>
         ensures reading { result.reading ≡ bound.reading }
-        ensures subject { subject (meaning bound.reading) result.inner.setup ≡ subject_of meaning bound }
-        ensures stands { Stands (subject_of meaning bound) opened result.inner }
+        ensures subject { subject (R.meaning bound.reading) result.inner.setup ≡ subject_of R.meaning bound }
+        ensures stands { Stands (subject_of R.meaning bound) opened result.inner }
     {
         let (reading, rule, names) = bound.into_parts();
         let possible = possible_sets(&reading, &names[0..rule.letters().len()]);
@@ -67,7 +67,7 @@ impl<R: Reading> Monitor<R> {
 
     // How things stand.
     pub fn standing(&self) -> Standing
-        ensures { (h : History) → Stands (subject (meaning self.now.reading) self.now.inner.setup) h self.now.inner → Tells (subject (meaning self.now.reading) self.now.inner.setup) h.codes result }
+        ensures { (h : History) → Stands (subject (R.meaning self.now.reading) self.now.inner.setup) h self.now.inner → Tells (subject (R.meaning self.now.reading) self.now.inner.setup) h.codes result }
     {
         self.inner.standing()
     }
@@ -75,7 +75,7 @@ impl<R: Reading> Monitor<R> {
     // Takes in an event.
     pub fn event(&mut self, code: u32) -> Result<Standing, Fault>
         ensures reading { self.new.reading ≡ self.old.reading }
-        ensures serves { Serves (subject (meaning self.old.reading) self.old.inner.setup) (Call.Event code) self.old.inner self.new.inner result }
+        ensures serves { Serves (subject (R.meaning self.old.reading) self.old.inner.setup) (Call.Event code) self.old.inner self.new.inner result }
     {
         let letters = admitted(&self.reading, &self.inner.setup, self.inner.count, code)?;
         self.inner.residual = self.inner.setup.plan.after(self.inner.residual, letters);
@@ -86,7 +86,7 @@ impl<R: Reading> Monitor<R> {
     // What `event` would answer. The monitor is left as it is.
     pub fn look_ahead(&mut self, code: u32) -> Result<Standing, Fault>
         ensures same { self.new ≡ self.old }
-        ensures serves { Serves (subject (meaning self.old.reading) self.old.inner.setup) (Call.LookAhead code) self.old.inner self.new.inner result }
+        ensures serves { Serves (subject (R.meaning self.old.reading) self.old.inner.setup) (Call.LookAhead code) self.old.inner self.new.inner result }
     {
         let count = self.inner.count;
         let (letters, _) = self.reading.show(code, self.inner.setup.letters());
@@ -98,7 +98,7 @@ impl<R: Reading> Monitor<R> {
     // Sets a mark at the events that stand.
     pub fn mark(&mut self) -> Result<Standing, Fault>
         ensures reading { self.new.reading ≡ self.old.reading }
-        ensures serves { Serves (subject (meaning self.old.reading) self.old.inner.setup) Call.Mark self.old.inner self.new.inner result }
+        ensures serves { Serves (subject (R.meaning self.old.reading) self.old.inner.setup) Call.Mark self.old.inner self.new.inner result }
     {
         self.inner.mark()
     }
@@ -106,7 +106,7 @@ impl<R: Reading> Monitor<R> {
     // Strikes the events past the newest mark, and removes that mark.
     pub fn back(&mut self) -> Result<Standing, Fault>
         ensures reading { self.new.reading ≡ self.old.reading }
-        ensures serves { Serves (subject (meaning self.old.reading) self.old.inner.setup) Call.Back self.old.inner self.new.inner result }
+        ensures serves { Serves (subject (R.meaning self.old.reading) self.old.inner.setup) Call.Back self.old.inner self.new.inner result }
     {
         self.inner.back()
     }
@@ -114,7 +114,7 @@ impl<R: Reading> Monitor<R> {
     // Removes the newest mark, and strikes nothing.
     pub fn keep(&mut self) -> Result<Standing, Fault>
         ensures reading { self.new.reading ≡ self.old.reading }
-        ensures serves { Serves (subject (meaning self.old.reading) self.old.inner.setup) Call.Keep self.old.inner self.new.inner result }
+        ensures serves { Serves (subject (R.meaning self.old.reading) self.old.inner.setup) Call.Keep self.old.inner self.new.inner result }
     {
         self.inner.keep()
     }
@@ -123,7 +123,7 @@ impl<R: Reading> Monitor<R> {
     pub fn close(self) -> Standing
     where
         R: Drop,
-        ensures { (h : History) → Stands (subject (meaning self.reading) self.inner.setup) h self.inner → Tells (subject (meaning self.reading) self.inner.setup) h.codes result }
+        ensures { (h : History) → Stands (subject (R.meaning self.reading) self.inner.setup) h self.inner → Tells (subject (R.meaning self.reading) self.inner.setup) h.codes result }
     {
         self.standing()
     }
@@ -132,7 +132,7 @@ impl<R: Reading> Monitor<R> {
 // The letters that are on at the code of an event that comes after `count` others.
 fn admitted<R: Reading>(reading: &R, setup: &Setup, count: usize, code: u32) -> Result<u8, Fault>
     requires { count ≤ 4095 }
-    ensures { MatchResult result (λ on. (event_refusal (subject (meaning reading.now) setup.now) count code ≡ None) × (on ≡ on_set (meaning reading.now) code (subject (meaning reading.now) setup.now).numbers) × (count < 4095)) (λ f. event_refusal (subject (meaning reading.now) setup.now) count code ≡ Some f) }
+    ensures { MatchResult result (λ on. (event_refusal (subject (R.meaning reading.now) setup.now) count code ≡ None) × (on ≡ on_set (R.meaning reading.now) code (subject (R.meaning reading.now) setup.now).numbers) × (count < 4095)) (λ f. event_refusal (subject (R.meaning reading.now) setup.now) count code ≡ Some f) }
 {
     if count >= EVENTS {
         return Err(Fault::ManyEvents);

@@ -27,7 +27,7 @@ const SETS: usize = 256;
 
 // The sets of letters that some code shows, with nothing in doubt.
 pub(crate) fn possible_sets<R: Reading>(reading: &R, names: &[u8]) -> VectorSet
-    ensures { (a : ℕ) → a < 256 → Decides (vectors result a) (Possible (meaning reading.now) names.now a) }
+    ensures { (a : ℕ) → a < 256 → Decides (vectors result a) (Possible (R.meaning reading.now) names.now a) }
 {
     let mut sets = VectorSet::empty();
     for a in 0..SETS {

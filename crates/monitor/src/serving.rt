@@ -12,7 +12,7 @@ use rules::Fault;
 // Makes one call on a monitor.
 pub fn serve<R: Reading>(monitor: &mut Monitor<R>, call: Call) -> Result<Standing, Fault>
     ensures reading { monitor.new.reading ≡ monitor.old.reading }
-    ensures serves { Serves (subject (meaning monitor.old.reading) monitor.old.inner.setup) call monitor.old.inner monitor.new.inner result }
+    ensures serves { Serves (subject (R.meaning monitor.old.reading) monitor.old.inner.setup) call monitor.old.inner monitor.new.inner result }
 {
     match call {
         Call::Event(code) => monitor.event(code),

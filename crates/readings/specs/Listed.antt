@@ -1,5 +1,5 @@
 -- Lists of names: what is refused, and finding a name. Assumes nothing.
-use Rattle.std.specs.Prelude.{ℕ, ◌+◌, Bool, cond, List, [], ◌∷◌, map, length, take, is_some, Some, None, Option, nat_lt, slice_index_or}
+use Rattle.std.specs.Prelude.{ℕ, ◌+◌, cond, List, [], map, length, take, is_some, Some, None, Option, nat_lt, slice_index_or}
 use Rattle.std.specs.Borrow.{Bor}
 use Rattle.rules.specs.Names.{spelled, same_name}
 use Rattle.rules.specs.Signs.{is_name}

@@ -12,7 +12,7 @@ use rules::{Fault, Rule};
 impl<R: Reading> BoundRule<R> {
     // How many letters the rule has, or the first that the reading does not know.
     pub fn check(rule: &Rule, reading: &R) -> Result<usize, Fault>
-        ensures { result ≡ answer (unbound (meaning reading.now) (letters_of rule.now)) (letter_count rule.now) }
+        ensures { result ≡ answer (unbound (R.meaning reading.now) (letters_of rule.now)) (letter_count rule.now) }
     {
         let letters = rule.letters();
         for i in 0..letters.len() {
@@ -28,7 +28,7 @@ impl<R: Reading> BoundRule<R> {
     pub fn new(rule: Rule, reading: R) -> BoundRule<R>
         ensures reading { result.reading ≡ reading }
         ensures rule { result.rule ≡ rule }
-        ensures numbers { numbers_of result ≡ numbers_for (meaning reading) (letters_of rule) }
+        ensures numbers { numbers_of result ≡ numbers_for (R.meaning reading) (letters_of rule) }
     {
         let numbers = numbers_for(&rule, &reading);
         BoundRule {
@@ -75,7 +75,7 @@ impl<R: Reading> BoundRule<R> {
 
     // Whether a letter of the rule is in doubt at this code.
     pub fn in_doubt(&self, code: u32) -> bool
-        ensures { result ≡ not (doubt_set (meaning self.now.reading) code (numbers_of self.now) == 0) }
+        ensures { result ≡ not (doubt_set (R.meaning self.now.reading) code (numbers_of self.now) == 0) }
     {
         let (_, doubt) = self.reading.show(code, self.numbers());
         doubt != 0
@@ -83,7 +83,7 @@ impl<R: Reading> BoundRule<R> {
 }
 
 fn numbers_for<R: Reading>(rule: &Rule, reading: &R) -> [u8; 8]
-    ensures { take (letter_count rule.now) result ≡ numbers_for (meaning reading.now) (letters_of rule.now) }
+    ensures { take (letter_count rule.now) result ≡ numbers_for (R.meaning reading.now) (letters_of rule.now) }
 {
     let mut numbers = [0; 8];
     let letters = rule.letters();

@@ -1,4 +1,6 @@
 // Readings: what an event's code says of the names that a rule is about.
+#![tactic(auto)]
+
 mod binding;
 mod bound;
 mod listed;

@@ -16,8 +16,8 @@ const MOST_EVENTS: usize = 4095;
 // Copies the first m values to the next m.
 fn keep<S: Scale>(m: usize, scratch: &mut [S])
     requires { m + m ≤ length scratch.old }
-    ensures first { (j : ℕ) → j < m → at ops scratch.new j ≡ at ops scratch.old j }
-    ensures second { (j : ℕ) → j < m → at ops scratch.new (m + j) ≡ at ops scratch.old j }
+    ensures first { (j : ℕ) → j < m → at S.ops scratch.new j ≡ at S.ops scratch.old j }
+    ensures second { (j : ℕ) → j < m → at S.ops scratch.new (m + j) ≡ at S.ops scratch.old j }
     ensures rest { drop (m + m) scratch.new ≡ drop (m + m) scratch.old }
 {
     for i in 0..m {
@@ -29,7 +29,7 @@ fn keep<S: Scale>(m: usize, scratch: &mut [S])
 fn end_row<S: Scale>(nodes: &[Node], scratch: &mut [S])
     requires ordered { Ordered nodes.now }
     requires nodes_in_bounds { length nodes.now ≤ length scratch.old }
-    ensures values { Ended ops nodes.now scratch.new (length nodes.now) }
+    ensures values { Ended S.ops nodes.now scratch.new (length nodes.now) }
     ensures rest { drop (length nodes.now) scratch.new ≡ drop (length nodes.now) scratch.old }
 {
     for i in 0..nodes.len() {
@@ -42,7 +42,7 @@ fn row<S: Scale>(nodes: &[Node], letters: &[S], scratch: &mut [S])
     requires ordered { Ordered nodes.now }
     requires lettered { Lettered (length letters.now) nodes.now }
     requires nodes_in_bounds { length nodes.now + length nodes.now ≤ length scratch.old }
-    ensures values { Rowed ops nodes.now (length nodes.now) letters.now scratch.new (length nodes.now) }
+    ensures values { Rowed S.ops nodes.now (length nodes.now) letters.now scratch.new (length nodes.now) }
     ensures rest { drop (length nodes.now) scratch.new ≡ drop (length nodes.now) scratch.old }
 {
     let m = nodes.len();
@@ -67,7 +67,7 @@ fn fill<S: Scale>(nodes: &[Node], k: usize, n: usize, valuation: &[S], scratch: 
     requires lettered { Lettered k nodes.now }
     requires k_in_bounds { n * k ≤ length valuation.now }
     requires nodes_in_bounds { length nodes.now + length nodes.now ≤ length scratch.old }
-    ensures { Filled ops nodes.now (length nodes.now) n (rows n k valuation.now) scratch.old scratch.new }
+    ensures { Filled S.ops nodes.now (length nodes.now) n (rows n k valuation.now) scratch.old scratch.new }
 {
     end_row(nodes, scratch);
     for p in (0..n).rev() {
@@ -84,9 +84,9 @@ pub fn evaluate<S: Scale>(
     valuation: &[S],
     scratch: &mut [S],
 ) -> Result<S, Fault>
-    ensures answers { result ≡ answer (refused rule.now n valuation.now scratch.old) (means ops (tree_of_rule rule.now) (recorded rule.now n valuation.now)) }
-    ensures means_tree { (t : Tree ℕ) → flatten t 0 ≡ nodes_of rule.now → result ≡ answer (refused rule.now n valuation.now scratch.old) (means ops t (recorded rule.now n valuation.now)) }
-    ensures leaves { Left (refused rule.now n valuation.now scratch.old) (scratch.new ≡ scratch.old) (Filled ops (nodes_of rule.now) (node_count rule.now) n (recorded rule.now n valuation.now) scratch.old scratch.new) }
+    ensures answers { result ≡ answer (refused rule.now n valuation.now scratch.old) (means S.ops (tree_of_rule rule.now) (recorded rule.now n valuation.now)) }
+    ensures means_tree { (t : Tree ℕ) → flatten t 0 ≡ nodes_of rule.now → result ≡ answer (refused rule.now n valuation.now scratch.old) (means S.ops t (recorded rule.now n valuation.now)) }
+    ensures leaves { Left (refused rule.now n valuation.now scratch.old) (scratch.new ≡ scratch.old) (Filled S.ops (nodes_of rule.now) (node_count rule.now) n (recorded rule.now n valuation.now) scratch.old scratch.new) }
 {
     let nodes = rule.nodes();
     let m = nodes.len();

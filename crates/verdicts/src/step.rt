@@ -7,14 +7,14 @@ use crate::scale::Scale;
 use rules::{Binary, Node, Unary};
 
 fn truth_value<S: Scale>(v: bool) -> S
-    ensures { result ≡ constant ops v }
+    ensures { result ≡ constant S.ops v }
 {
     if v { S::top() } else { S::bottom() }
 }
 
 // An operator past the last event.
 fn unary_end<S: Scale>(op: Unary, x: S) -> S
-    ensures { result ≡ unary_end ops op x }
+    ensures { result ≡ unary_end S.ops op x }
 {
     match op {
         Unary::Not => x.negate(),
@@ -24,7 +24,7 @@ fn unary_end<S: Scale>(op: Unary, x: S) -> S
 }
 
 fn binary_end<S: Scale>(op: Binary, x: S, y: S) -> S
-    ensures { result ≡ binary_end ops op x y }
+    ensures { result ≡ binary_end S.ops op x y }
 {
     match op {
         Binary::Until => S::bottom(),
@@ -38,7 +38,7 @@ fn binary_end<S: Scale>(op: Binary, x: S, y: S) -> S
 
 // An operator at an event. `next` is the operand's value one place on, and `own` the node's.
 fn unary_row<S: Scale>(op: Unary, x: S, next: S, own: S) -> S
-    ensures { result ≡ unary_row ops op x next own }
+    ensures { result ≡ unary_row S.ops op x next own }
 {
     match op {
         Unary::Not => x.negate(),
@@ -49,7 +49,7 @@ fn unary_row<S: Scale>(op: Unary, x: S, next: S, own: S) -> S
 }
 
 fn binary_row<S: Scale>(op: Binary, x: S, y: S, own: S) -> S
-    ensures { result ≡ binary_row ops op x y own }
+    ensures { result ≡ binary_row S.ops op x y own }
 {
     match op {
         Binary::Until => y.join(x.meet(own)),
@@ -60,7 +60,7 @@ fn binary_row<S: Scale>(op: Binary, x: S, y: S, own: S) -> S
 // A node past the last event. `scratch` has the values there of the nodes before it.
 pub(crate) fn node_end<S: Scale>(node: Node, scratch: &[S]) -> S
     requires { Below (length scratch.now) node }
-    ensures { result ≡ step_end ops (at ops scratch.now) node }
+    ensures { result ≡ step_end S.ops (at S.ops scratch.now) node }
 {
     match node {
         Node::Letter(_) => S::bottom(),
@@ -83,7 +83,7 @@ pub(crate) fn node_row<S: Scale>(
     requires below { Below own node }
     requires own_lt_m { own < m }
     requires m_in_bounds { m + m ≤ length scratch.now }
-    ensures { result ≡ step_row ops (at ops letters.now) (at ops scratch.now) (λ a. at ops scratch.now (m + a)) (at ops scratch.now (m + own)) node }
+    ensures { result ≡ step_row S.ops (at S.ops letters.now) (at S.ops scratch.now) (λ a. at S.ops scratch.now (m + a)) (at S.ops scratch.now (m + own)) node }
 {
     match node {
         Node::Letter(l) => letters[l as usize],

@@ -12,7 +12,7 @@ const MOST_EVENTS: usize = 4095;
 
 // Whether the letters of this set may be in doubt.
 fn may_doubt<S: Scale>(set: u8) -> bool
-    ensures { result ≡ (takes || set == 0) }
+    ensures { result ≡ (S.takes || set == 0) }
 {
     S::doubt_is_taken() || set == 0
 }
@@ -23,7 +23,7 @@ pub fn check_events<S: Scale, R: Reading>(
     numbers: &[u8],
     trace: &[u32],
 ) -> Result<(), Fault>
-    ensures { result ≡ answer (first (length trace.now) (wrong_event (meaning reading.now) takes numbers.now trace.now)) tt }
+    ensures { result ≡ answer (first (length trace.now) (wrong_event (R.meaning reading.now) S.takes numbers.now trace.now)) tt }
 {
     for i in 0..trace.len() {
         if trace[i] >= reading.codes() {
@@ -47,7 +47,7 @@ fn has(set: u8, i: usize) -> bool
 
 // What a letter is worth that is on or not, and in doubt or not.
 fn value<S: Scale>(on: bool, doubt: bool) -> S
-    ensures { result ≡ (if on then ops.top else (if doubt then doubtful else ops.bottom)) }
+    ensures { result ≡ (if on then S.ops.top else (if doubt then S.doubtful else S.ops.bottom)) }
 {
     if on {
         S::top()
@@ -62,7 +62,7 @@ fn value<S: Scale>(on: bool, doubt: bool) -> S
 fn lay_row<S: Scale, R: Reading>(reading: &R, numbers: &[u8], code: u32, row: &mut [S])
     requires numbers_len_bound { length numbers.now ≤ 8 }
     requires row_len { length row.old ≡ length numbers.now }
-    ensures { row.new ≡ row_of ops doubtful (meaning reading.now) numbers.now code }
+    ensures { row.new ≡ row_of S.ops S.doubtful (R.meaning reading.now) numbers.now code }
 {
     let (on, doubt) = reading.show(code, numbers);
     for i in 0..numbers.len() {
@@ -74,7 +74,7 @@ fn lay_row<S: Scale, R: Reading>(reading: &R, numbers: &[u8], code: u32, row: &m
 fn lay<S: Scale, R: Reading>(reading: &R, numbers: &[u8], trace: &[u32], out: &mut [S])
     requires numbers_len_bound { length numbers.now ≤ 8 }
     requires numbers_in_bounds { length trace.now * length numbers.now ≤ length out.old }
-    ensures { Laid (laid ops doubtful (meaning reading.now) numbers.now trace.now) out.old out.new }
+    ensures { Laid (laid S.ops S.doubtful (R.meaning reading.now) numbers.now trace.now) out.old out.new }
 {
     let k = numbers.len();
     for i in 0..trace.len() {
@@ -90,8 +90,8 @@ pub fn valuate<S: Scale, R: Reading>(
     trace: &[u32],
     out: &mut [S],
 ) -> Result<(), Fault>
-    ensures answers { result ≡ answer (unlaid (meaning bound.now.reading) takes (numbers_of bound.now) trace.now (length out.old)) tt }
-    ensures leaves { Left (unlaid (meaning bound.now.reading) takes (numbers_of bound.now) trace.now (length out.old)) (out.new ≡ out.old) (Laid (laid ops doubtful (meaning bound.now.reading) (numbers_of bound.now) trace.now) out.old out.new) }
+    ensures answers { result ≡ answer (unlaid (R.meaning bound.now.reading) S.takes (numbers_of bound.now) trace.now (length out.old)) tt }
+    ensures leaves { Left (unlaid (R.meaning bound.now.reading) S.takes (numbers_of bound.now) trace.now (length out.old)) (out.new ≡ out.old) (Laid (laid S.ops S.doubtful (R.meaning bound.now.reading) (numbers_of bound.now) trace.now) out.old out.new) }
 {
     let numbers = bound.numbers();
     let k = numbers.len();

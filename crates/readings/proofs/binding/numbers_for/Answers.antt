@@ -1,4 +1,4 @@
-use Rattle.std.proofs.Common.{◌≡◌, ◌<◌, ◌≤◌, length, take, unwrap_or, sym, ap, ◌∙◌, subst, ap₂, arith, length-set}
+use Rattle.std.proofs.Common.{◌≡◌, ◌<◌, ◌≤◌, length, take, unwrap_or, ap, ◌∙◌, arith, length-set}
 use Rattle.std.proofs.lemmas.List.{take_all}
 use Rattle.readings.specs.Binding.{found_by, letter_at, numbers_for}
 use Rattle.readings.specs.Finding.{numbers_more}
@@ -11,8 +11,8 @@ loop-i-preserved g c =
     let i = c.loop-i.i in
     let few : c.args.rule.now.table.count ≤ 8 = c.args.rule.now.known in
     let room : i < length c.loop-i.numbers = omega (arith, c.loop-i.invariant.0, c.letters-letters.ensures.long) in
-    let is : c.unwrap-or.result ≡ unwrap_or (found_by m (letter_at ls i)) 0 = c.unwrap-or.ensures ∙ ap (λ o. unwrap_or o 0) (c.find.ensures ∙ ap m.finds c.text.ensures) in
-    (length-set c.loop-i.numbers i c.unwrap-or.result ∙ c.loop-i.invariant.0, numbers_more m ls i c.loop-i.numbers c.unwrap-or.result c.loop-i-test.true room is c.loop-i.invariant.1)
+    let is : c.unwrap_or.result ≡ unwrap_or (found_by m (letter_at ls i)) 0 = c.unwrap_or.ensures ∙ ap (λ o. unwrap_or o 0) (c.find.ensures ∙ ap m.finds c.text.ensures) in
+    (length-set c.loop-i.numbers i c.unwrap_or.result ∙ c.loop-i.invariant.0, numbers_more m ls i c.loop-i.numbers c.unwrap_or.result c.loop-i-test.true room is c.loop-i.invariant.1)
 
 pub returns : goal.returns
 returns g c =

@@ -1,8 +1,8 @@
 use Rattle.std.proofs.Common.{◌≡◌, ◌-◌, length, take, ap, arith, rules}
 use Rattle.readings.proofs.bound.BoundRule.numbers.Goals as goal
 
-pub slice-bounds-result-end : goal.slice-bounds-result-end
-slice-bounds-result-end g c = let e = c.letters.ensures.long in search rules
+pub slice_bounds-result-end : goal.slice_bounds-result-end
+slice_bounds-result-end g c = let e = c.letters.ensures.long in search rules
 
 pub returns : goal.returns
 returns g c =

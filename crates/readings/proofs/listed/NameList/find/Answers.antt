@@ -1,4 +1,4 @@
-use Rattle.std.proofs.Common.{◌≡◌, ◌<◌, ◌≤◌, length, sym, ap, ◌∙◌, arith, rules}
+use Rattle.std.proofs.Common.{◌≡◌, sym, ap, ◌∙◌, arith}
 use Rattle.rules.specs.Names.{same_name}
 use Rattle.rules.proofs.First.{first_start, first_more}
 use Rattle.readings.specs.Listed.{spellings, name_at}
@@ -8,19 +8,19 @@ use Rattle.readings.proofs.listed.NameList.find.Goals as goal
 pub loop-i-init : goal.loop-i-init
 loop-i-init c = first_start (hit (spellings c.args.self.now) c.args.name.now)
 
-pub returns-then-same-name : goal.returns-then-same-name
-returns-then-same-name c =
+pub returns-then-same_name : goal.returns-then-same_name
+returns-then-same_name c =
     let l = c.args.self.now in
     let n = c.args.name.now in
     let is : name_at (spellings l) c.loop-i.i ≡ c.text.result.now = spelling_at l c.loop-i.i _ c.loop-i-test.true ∙ sym c.text.ensures in
-    sym (found_at (spellings l) n c.loop-i.i (omega (arith, spellings_length l)) c.loop-i.invariant (ap (λ x. same_name x n) is ∙ sym c.if-same-name.ensures))
+    sym (found_at (spellings l) n c.loop-i.i (omega (arith, spellings_length l)) c.loop-i.invariant (ap (λ x. same_name x n) is ∙ sym c.if-same_name.ensures))
 
 pub loop-i-preserved : goal.loop-i-preserved
 loop-i-preserved c =
     let l = c.args.self.now in
     let n = c.args.name.now in
     let is : name_at (spellings l) c.loop-i.i ≡ c.text.result.now = spelling_at l c.loop-i.i _ c.loop-i-test.true ∙ sym c.text.ensures in
-    first_more (hit (spellings l) n) c.loop-i.i c.loop-i.invariant (hit_miss (spellings l) n c.loop-i.i (ap (λ x. same_name x n) is ∙ sym c.if-same-name.ensures))
+    first_more (hit (spellings l) n) c.loop-i.i c.loop-i.invariant (hit_miss (spellings l) n c.loop-i.i (ap (λ x. same_name x n) is ∙ sym c.if-same_name.ensures))
 
 pub returns : goal.returns
 returns c =

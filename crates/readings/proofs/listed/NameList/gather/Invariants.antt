@@ -1,4 +1,4 @@
-use Rattle.std.proofs.Common.{◌≡◌, ◌≤◌, length, take, None}
+use Rattle.std.proofs.Common.{◌≡◌, take, None}
 use Rattle.rules.specs.First.{first}
 use Rattle.readings.specs.Listed.{lent, spellings, wrong_at}
 use Rattle.readings.proofs.listed.NameList.gather.Given as goal

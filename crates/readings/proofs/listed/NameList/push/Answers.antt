@@ -1,4 +1,4 @@
-use Rattle.std.proofs.Common.{◌≡◌, ◌<◌, length, refl, ap, ◌∙◌, rules}
+use Rattle.std.proofs.Common.{◌<◌, length, refl, ap, ◌∙◌, rules}
 use Rattle.std.proofs.lemmas.List.{take_more_set, map_push}
 use Rattle.rules.specs.Names.{spelled}
 use Rattle.readings.proofs.listed.NameList.push.Goals as goal

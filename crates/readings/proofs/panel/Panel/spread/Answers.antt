@@ -13,7 +13,7 @@ pub loop-i-preserved : goal.loop-i-preserved
 loop-i-preserved c =
     let inv = c.loop-i.invariant in
     let within : c.loop-i.i < length c.args.names.now = omega (arith, c.min-i-end.ensures, c.loop-i-test.true) in
-    let on = gain (asks (length (spellings c.args.self.now.list)) c.args.names.now c.args.set) c.args.names.now c.loop-i.i c.loop-i.worth c.loop-i.on c.gained-on.result (c.has.result && c.is-asked.result) within inv.0 inv.1 inv.2 (ap₂ ◌&&◌ c.has.ensures c.is-asked.ensures) c.gained-on.ensures in
+    let on = gain (asks (length (spellings c.args.self.now.list)) c.args.names.now c.args.set) c.args.names.now c.loop-i.i c.loop-i.worth c.loop-i.on c.gained-on.result (c.has.result && c.is_asked.result) within inv.0 inv.1 inv.2 (ap₂ ◌&&◌ c.has.ensures c.is_asked.ensures) c.gained-on.ensures in
     (twice c.loop-i.i c.loop-i.worth inv.0, on.0, on.1)
 
 pub returns : goal.returns

@@ -1,4 +1,4 @@
-use Rattle.std.proofs.Common.{◌<◌, length, take, sym, refl, ap, ◌∙◌, ap₂, arith}
+use Rattle.std.proofs.Common.{◌<◌, length, take, refl, ap, ◌∙◌, ap₂, arith}
 use lib.Bits.{bit_and}
 use Rattle.readings.specs.Meaning.{mark_of, is_on, in_doubt, worth, on_set, doubt_set}
 use Rattle.readings.proofs.Bits.{sets_apart}
@@ -14,8 +14,8 @@ loop-i-preserved g c =
     let m = g.Self.Reading.meaning c.args.self.now in
     let inv = c.loop-i.invariant in
     let within : c.loop-i.i < length c.args.names.now = omega (arith, c.min-i-end.ensures, c.loop-i-test.true) in
-    let on = gain (λ n. is_on (mark_of m c.args.code n)) c.args.names.now c.loop-i.i c.loop-i.worth c.loop-i.on c.gained-on.result c.is-on.result within inv.0 inv.1 inv.3 (c.is-on.ensures ∙ ap is_on c.mark-mark.ensures) c.gained-on.ensures in
-    let doubt = gain (λ n. in_doubt (mark_of m c.args.code n)) c.args.names.now c.loop-i.i c.loop-i.worth c.loop-i.doubt c.gained-doubt.result c.in_doubt_lem.result within inv.0 inv.2 inv.4 (c.in_doubt_lem.ensures ∙ ap in_doubt c.mark-mark.ensures) c.gained-doubt.ensures in
+    let on = gain (λ n. is_on (mark_of m c.args.code n)) c.args.names.now c.loop-i.i c.loop-i.worth c.loop-i.on c.gained-on.result c.is_on.result within inv.0 inv.1 inv.3 (c.is_on.ensures ∙ ap is_on c.mark-mark.ensures) c.gained-on.ensures in
+    let doubt = gain (λ n. in_doubt (mark_of m c.args.code n)) c.args.names.now c.loop-i.i c.loop-i.worth c.loop-i.doubt c.gained-doubt.result c.in_doubt.result within inv.0 inv.2 inv.4 (c.in_doubt.ensures ∙ ap in_doubt c.mark-mark.ensures) c.gained-doubt.ensures in
     (twice c.loop-i.i c.loop-i.worth inv.0, on.0, doubt.0, on.1, doubt.1)
 
 pub returns : goal.returns

@@ -1,4 +1,4 @@
-use Rattle.std.proofs.Common.{◌≡◌, ◌^◌, ◌<◌, ◌≤◌, take}
+use Rattle.std.proofs.Common.{◌≡◌, ◌^◌, ◌<◌, take}
 use Rattle.readings.specs.Meaning.{mark_of, is_on, in_doubt, worth}
 use Rattle.readings.proofs.reading.Reading.show.Given as goal
 
