@@ -1,4 +1,6 @@
 // What a rule comes to on a record of events, on any scale of verdicts.
+#![tactic(auto)]
+
 mod backward;
 mod scale;
 mod step;

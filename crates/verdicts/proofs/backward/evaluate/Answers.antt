@@ -10,8 +10,8 @@ use Rattle.rules.proofs.Flat.{flat_decode}
 use Rattle.verdicts.proofs.Rules.{nodes_ordered, nodes_lettered}
 use Rattle.verdicts.proofs.backward.evaluate.Goals as goal
 
-pub overflow-mul-n : goal.overflow-mul-n
-overflow-mul-n g c =
+pub overflow_mul-n : goal.overflow_mul-n
+overflow_mul-n g c =
     let few : length c.letters-k.result.now ≤ 8 = omega arith in
     let low : c.args.n ≤ 65535 = omega arith in
     let up : c.args.n * length c.letters-k.result.now ≤ 65535 * 8 = mul-le-mul low few in
@@ -22,12 +22,13 @@ fill-requires g c =
     let rule = c.args.rule.now in
     let same = c.nodes-nodes.ensures.same in
     let long : length (nodes_of rule) ≡ node_count rule = sym (ap length same) ∙ c.nodes-nodes.ensures.long in
-    let Letters : ℕ → Type 0 = λ k. Lettered k c.nodes-nodes.result.now in (
-      subst Ordered (sym same) (nodes_ordered rule long),
-      subst Letters (sym c.letters-k.ensures.long) (subst (Lettered (letter_count rule)) (sym same) (nodes_lettered rule long)),
-      c.if-valuation-n.false,
-      omega arith,
-    )
+    let Letters : ℕ → Type 0 = λ k. Lettered k c.nodes-nodes.result.now in
+    record {
+      ordered = subst Ordered (sym same) (nodes_ordered rule long);
+      lettered = subst Letters (sym c.letters-k.ensures.long) (subst (Lettered (letter_count rule)) (sym same) (nodes_lettered rule long));
+      k_in_bounds = c.if-valuation-n.false;
+      nodes_in_bounds = omega arith;
+    }
 
 pub returns : goal.returns
 returns g c =
@@ -52,6 +53,6 @@ returns g c =
     ap Ok root ∙ ap (λ f. answer f (means ops (tree_of_rule rule) (recorded rule n xs))) (sym none) in
     record {
       answers = is;
-      means-tree = λ t w. is ∙ ap (λ x. answer no (means ops x (recorded rule n xs))) (flat_decode t (nodes_of rule) (node_count rule) long w);
+      means_tree = λ t w. is ∙ ap (λ x. answer no (means ops x (recorded rule n xs))) (flat_decode t (nodes_of rule) (node_count rule) long w);
       leaves = subst (λ f. Left f (new ≡ old) (Filled ops (nodes_of rule) (node_count rule) n (recorded rule n xs) old new)) (sym none) done;
     }

@@ -1,4 +1,4 @@
-use Rattle.std.proofs.Common.{◌≡◌, length, drop}
+use Rattle.std.proofs.Common.{◌≡◌, drop}
 use Rattle.verdicts.specs.Step.{Rowed}
 use Rattle.verdicts.proofs.backward.row.Given as goal
 

@@ -20,8 +20,8 @@ returns-then-trace-i g c =
     let here : first (length cs) wrong ≡ Some (HighCode (i + 1)) = first_some wrong (length cs) i (HighCode (i + 1)) c.loop-i-test.true c.loop-i.invariant (high_code m g.S.Scale.takes c.args.numbers.now cs i high) in
     sym (ap (λ f. answer f tt) here)
 
-pub returns-then-not-may-doubt : goal.returns-then-not-may-doubt
-returns-then-not-may-doubt g c =
+pub returns-then-not-may_doubt : goal.returns-then-not-may_doubt
+returns-then-not-may_doubt g c =
     let m = g.R.Reading.meaning c.args.reading.now in
     let takes = g.S.Scale.takes in
     let ns = c.args.numbers.now in
@@ -29,7 +29,7 @@ returns-then-not-may-doubt g c =
     let i = c.loop-i.i in
     let wrong = wrong_event m takes ns cs in
     let low : get_or cs i 0 < m.codes = omega (arith, c.codes.ensures) in
-    let not_taken : (takes || eqb (doubt_set m (get_or cs i 0) ns) 0) ≡ false = ap (λ s. takes || eqb s 0) (sym c.show-doubt.ensures.doubt) ∙ sym c.may-doubt.ensures ∙ c.if-not-may-doubt.true in
+    let not_taken : (takes || eqb (doubt_set m (get_or cs i 0) ns) 0) ≡ false = ap (λ s. takes || eqb s 0) (sym c.show-doubt.ensures.doubt) ∙ sym c.may_doubt.ensures ∙ c.if-not-may_doubt.true in
     let here : first (length cs) wrong ≡ Some (InDoubt (i + 1)) = first_some wrong (length cs) i (InDoubt (i + 1)) c.loop-i-test.true c.loop-i.invariant (in_doubt_lem m takes ns cs i low not_taken) in
     sym (ap (λ f. answer f tt) here)
 
@@ -41,7 +41,7 @@ loop-i-preserved g c =
     let cs = c.args.trace.now in
     let i = c.loop-i.i in
     let low : get_or cs i 0 < m.codes = omega (arith, c.codes.ensures) in
-    let fine : (takes || eqb (doubt_set m (get_or cs i 0) ns) 0) ≡ true = ap (λ s. takes || eqb s 0) (sym c.show-doubt.ensures.doubt) ∙ sym c.may-doubt.ensures ∙ c.if-not-may-doubt.false in
+    let fine : (takes || eqb (doubt_set m (get_or cs i 0) ns) 0) ≡ true = ap (λ s. takes || eqb s 0) (sym c.show-doubt.ensures.doubt) ∙ sym c.may_doubt.ensures ∙ c.if-not-may_doubt.false in
     first_more (wrong_event m takes ns cs) i c.loop-i.invariant (nothing_wrong m takes ns cs i low fine)
 
 pub returns : goal.returns
