@@ -11,11 +11,11 @@ use Rattle.claims.proofs.Complete.{going_more, going_all}
 use Rattle.claims.proofs.Right.{Bound, bound_as}
 use Rattle.claims.proofs.writing.write.Goals as goal
 
-pub returns-then-n-gt-MOST-EVENTS : goal.returns-then-n-gt-MOST-EVENTS
-returns-then-n-gt-MOST-EVENTS g c =
+pub returns-then-n-gt-MOST_EVENTS : goal.returns-then-n-gt-MOST_EVENTS
+returns-then-n-gt-MOST_EVENTS g c =
     let k = case_of g.R.Reading.meaning c.args.bound.now c.args.trace.now in
     let room = length c.args.out.now in
-    let no : unwritten k room ≡ Some ManyEvents = many_to_write k room c.if-n-gt-MOST-EVENTS.true in
+    let no : unwritten k room ≡ Some ManyEvents = many_to_write k room c.if-n-gt-MOST_EVENTS.true in
     record { answers = sym (ap (λ f. answer f (claim_count k)) no); leaves = rw no refl }
 
 pub returns-then-out-total : goal.returns-then-out-total
@@ -25,22 +25,22 @@ returns-then-out-total g c =
     let n = length c.args.trace.now in
     let room = length c.args.out.now in
     let count : length c.nodes-m.result.now ≡ node_count b.rule = c.nodes-m.ensures.long ∙ ap node_count c.rule.ensures in
-    let no : unwritten k room ≡ Some (ShortBuffer (claim_count k)) = short_room k room c.if-n-gt-MOST-EVENTS.false (subst (λ m. room < (n + 1) * m) count c.if-out-total.true) in
+    let no : unwritten k room ≡ Some (ShortBuffer (claim_count k)) = short_room k room c.if-n-gt-MOST_EVENTS.false (subst (λ m. room < (n + 1) * m) count c.if-out-total.true) in
     record { answers = ap (λ m. Err (ShortBuffer ((n + 1) * m))) count ∙ sym (ap (λ f. answer f (claim_count k)) no); leaves = rw no refl }
 
-pub returns-in-err-check-events : goal.returns-in-err-check-events
-returns-in-err-check-events g c =
+pub returns-in_err-check_events : goal.returns-in_err-check_events
+returns-in_err-check_events g c =
     let means = g.R.Reading.meaning in
     let b = c.args.bound.now in
     let k = case_of means b c.args.trace.now in
     let n = length c.args.trace.now in
     let room = length c.args.out.now in
-    let y = c.in-err-check-events.field-0.0 in
-    let p = err_from_is_err_and c.from-residual.result c.from-residual.ensures.1 in
+    let y = c.in_err-check_events.field-0.0 in
+    let p = err_from_is_err_and c.from_residual.result c.from_residual.ensures.1 in
     let count : length c.nodes-m.result.now ≡ node_count b.rule = c.nodes-m.ensures.long ∙ ap node_count c.rule.ensures in
     let fits : claim_count k ≤ room = subst (λ m. (n + 1) * m ≤ room) count c.if-out-total.false in
-    let is = wrong_some means b c.args.trace.now c.numbers-numbers.result.now c.reading.result.now c.reading.ensures c.numbers-numbers.ensures.value y (sym c.check-events.ensures ∙ c.in-err-check-events.was) in
-    let no : unwritten k room ≡ Some y = by_event k room c.if-n-gt-MOST-EVENTS.false fits ∙ is in
+    let is = wrong_some means b c.args.trace.now c.numbers-numbers.result.now c.reading.result.now c.reading.ensures c.numbers-numbers.ensures.value y (sym c.check_events.ensures ∙ c.in_err-check_events.was) in
+    let no : unwritten k room ≡ Some y = by_event k room c.if-n-gt-MOST_EVENTS.false fits ∙ is in
     record { answers = p.1 ∙ ap Err p.2 ∙ sym (ap (λ f. answer f (claim_count k)) no); leaves = rw no refl }
 
 pub loop-i-preserved : goal.loop-i-preserved
@@ -54,7 +54,7 @@ loop-i-preserved g c =
     let ok : Bound k = bound_as means b cs c.numbers-numbers.result.now c.rule.result.now c.nodes-m.result.now
     c.rule.ensures c.nodes-m.ensures.same c.nodes-m.ensures.long c.numbers-numbers.ensures.value c.numbers-numbers.ensures.long in
     let low : i < claim_count k = subst (λ m. i < (length cs + 1) * m) count c.loop-i-test.true in
-    going_more k ok i c.args.out.now c.loop-i.out c.next-claim.result low (omega arith) c.next-claim.ensures c.loop-i.invariant
+    going_more k ok i c.args.out.now c.loop-i.out c.next_claim.result low (omega arith) c.next_claim.ensures c.loop-i.invariant
 
 pub returns : goal.returns
 returns g c =
@@ -70,7 +70,7 @@ returns g c =
     c.rule.ensures c.nodes-m.ensures.same c.nodes-m.ensures.long c.numbers-numbers.ensures.value c.numbers-numbers.ensures.long in
     let fits : claim_count k ≤ length old = subst (λ m. (n + 1) * m ≤ length old) count c.if-out-total.false in
     let up : claim_count k ≤ c.loop-i.i = subst (λ m. (n + 1) * m ≤ c.loop-i.i) count c.loop-i-test.false in
-    let fine : wrong k ≡ None = wrong_none means b cs c.numbers-numbers.result.now c.reading.result.now c.reading.ensures c.numbers-numbers.ensures.value c.in-ok-check-events.field-0 (sym c.check-events.ensures ∙ c.in-ok-check-events.was) in
-    let none : unwritten k (length old) ≡ None = by_event k (length old) c.if-n-gt-MOST-EVENTS.false fits ∙ fine in
-    let done : Written k old new = going_all k ok c.loop-i.i old new (few_events k c.if-n-gt-MOST-EVENTS.false ∙ fine) up (omega arith) c.loop-i.invariant in
+    let fine : wrong k ≡ None = wrong_none means b cs c.numbers-numbers.result.now c.reading.result.now c.reading.ensures c.numbers-numbers.ensures.value c.in_ok-check_events.field-0 (sym c.check_events.ensures ∙ c.in_ok-check_events.was) in
+    let none : unwritten k (length old) ≡ None = by_event k (length old) c.if-n-gt-MOST_EVENTS.false fits ∙ fine in
+    let done : Written k old new = going_all k ok c.loop-i.i old new (few_events k c.if-n-gt-MOST_EVENTS.false ∙ fine) up (omega arith) c.loop-i.invariant in
     record { answers = ap (λ m. Ok ((n + 1) * m)) count ∙ sym (ap (λ f. answer f (claim_count k)) none); leaves = rw none done }
