@@ -1,5 +1,7 @@
 // Polynomials over the two-element field in at most eight variables, as exclusive-or sums of products in 256 bits, and sets
 // of vectors in the same 256 bits: a polynomial by its products is a `Residual`, by its values a `VectorSet`.
+#![tactic(auto)]
+
 mod bits;
 mod residual;
 mod substitute;

@@ -43,7 +43,7 @@ impl Found {
     // Adds whatever follows v.
     pub(crate) fn expand<M: Machine>(&mut self, m: &M, v: u8)
         requires { Listed self.old }
-        ensures { Expanded (moves m.now) 256 v self.old self.new }
+        ensures { Expanded (M.moves m.now) 256 v self.old self.new }
     {
         for a in 0..=255 {
             if m.possible(a) {

@@ -1,4 +1,6 @@
 // Which vectors a machine can come to, and what holds whatever comes.
+#![tactic(auto)]
+
 ghost use Rattle.std.specs.Prelude.{◌≡◌, ℕ, true, ◌↔◌, Decides};
 ghost use Rattle.polynomials.specs.Held.{vectors};
 ghost use Rattle.reachable.specs.Reach.{Moves, Attainable, Exact, ForGood};
@@ -12,7 +14,7 @@ use polynomials::VectorSet;
 
 // The vectors that the machine can come to, and no others.
 pub fn reachable<M: Machine>(m: &M) -> VectorSet
-    ensures { (v : ℕ) → (vectors result v ≡ true) ↔ Attainable (moves m.now) v }
+    ensures { (v : ℕ) → (vectors result v ≡ true) ↔ Attainable (M.moves m.now) v }
 {
     let mut found = Found::none();
     found.visit(m.start());

@@ -1,12 +1,12 @@
-use Rattle.std.proofs.Common.{ℕ, ◌<◌, ◌≤◌, arith}
+use Rattle.std.proofs.Common.{arith}
 use Rattle.reachable.proofs.Search.{few, progress_more, progress_all}
 use Rattle.reachable.proofs.reachable.Goals as goal
 
 pub bounds-found-done : goal.bounds-found-done
 bounds-found-done g c = let f = few c.loop-done.found c.loop-done.invariant.listed in omega arith
 
-pub overflow-add-done : goal.overflow-add-done
-overflow-add-done g c = let f = few c.loop-done.found c.loop-done.invariant.listed in omega arith
+pub overflow_add-done : goal.overflow_add-done
+overflow_add-done g c = let f = few c.loop-done.found c.loop-done.invariant.listed in omega arith
 
 pub loop-done-smaller : goal.loop-done-smaller
 loop-done-smaller g c = let f = few c.loop-done.found c.loop-done.invariant.listed in omega arith

@@ -1,4 +1,4 @@
 use Rattle.polynomials.proofs.substitute.+in_word.Given as goal
 
-abbrev pub decreases-in-word : goal.decreases-in-word
-decreases-in-word l = l.n
+abbrev pub decreases-in_word : goal.decreases-in_word
+decreases-in_word l = l.n

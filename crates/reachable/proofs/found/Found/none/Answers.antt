@@ -1,4 +1,4 @@
-use Rattle.std.proofs.Common.{ℕ, sym, refl, ◌∙◌, arith}
+use Rattle.std.proofs.Common.{ℕ, sym, arith}
 use lib.ListN.{length-replicate}
 use Rattle.polynomials.specs.Held.{vectors}
 use Rattle.std.proofs.lemmas.Bool.{both_ways}

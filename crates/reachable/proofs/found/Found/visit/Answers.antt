@@ -1,4 +1,4 @@
-use Rattle.std.proofs.Common.{◌≡◌, ◌<◌, sym, ◌∙◌, arith}
+use Rattle.std.proofs.Common.{sym, ◌∙◌, arith}
 use Rattle.reachable.proofs.Visits.{new, place, after_listed, after_grown, others_only}
 use Rattle.reachable.proofs.found.Found.visit.Goals as goal
 
@@ -6,8 +6,8 @@ pub bounds-self-self : goal.bounds-self-self
 bounds-self-self c =
     place c.args.self.now c.add.new.self c.args.v c.ranges.v.fits c.requires (sym c.has.ensures ∙ c.if-not-has.true) c.add.ensures
 
-pub overflow-add-self : goal.overflow-add-self
-overflow-add-self c =
+pub overflow_add-self : goal.overflow_add-self
+overflow_add-self c =
     let p = place c.args.self.now c.add.new.self c.args.v c.ranges.v.fits c.requires (sym c.has.ensures ∙ c.if-not-has.true) c.add.ensures in
     omega arith
 
