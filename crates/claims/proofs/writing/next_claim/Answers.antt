@@ -42,4 +42,8 @@ claim_on-requires g c =
     let most : (n + 1) * node_count r ≤ 4096 * 64 = mul-le (n + 1) (node_count r) 4096 64 (omega arith) r.few in
     let low : i ≤ 262144 = omega (arith, c.requires.i_bound) in
     let early = early_by (case_of g.R.Reading.meaning c.args.bound.now c.args.trace.now) noded m i 262144 c.sign_if-sign.result c.ways.result e c.ways.ensures c.requires.i_bound low in
-    (omega arith, omega (arith, mod_below i m some, e, r.few), chosen_by (Earlier n m 262144) (shown n m c.args.claims.now) c.ways.result c.choose-grounds.result c.choose-grounds.ensures early)
+    record {
+      place_bound = omega arith;
+      own_bound = omega (arith, mod_below i m some, e, r.few);
+      of_grounds = chosen_by (Earlier n m 262144) (shown n m c.args.claims.now) c.ways.result c.choose-grounds.result c.choose-grounds.ensures early;
+    }
