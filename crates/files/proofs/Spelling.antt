@@ -5,7 +5,7 @@ use Rattle.std.proofs.lemmas.Fmt.{decimal-digits_value, digits_decimal, first_de
 use Rattle.std.proofs.lemmas.List.{drop_at, drop-drop, length-append, length-drop, take_all, take_at}
 use Rattle.std.proofs.lemmas.Str.Parse.{IsNumeralModel, digit_from_value, numerals_by_value, parse_plain, tells_digits}
 use Rattle.std.proofs.lemmas.Result.{OkIff-at_ok}
-use Rattle.std.proofs.lemmas.Bool.{and_cases, and_left, and_right, cases_lt, cond-false, eqb-false, eqb-true, eq-eqb, le-ltb, ltb-false, ne_eqb, or_from, or_parts, both_ways}
+use Rattle.std.proofs.lemmas.Bool.{and_cases, and_left, and_right, cases_lt, cond-false, eqb-false, eqb-true, le-ltb, ltb-false, ne_eqb, or_from, or_parts}
 use Rattle.files.specs.Event.{spoiled}
 use Rattle.files.specs.Lines.{before}
 

@@ -1,4 +1,6 @@
 // A log file: its lines, and the report on it.
+#![tactic(auto)]
+
 mod answer;
 mod claim_lines;
 mod decimal;

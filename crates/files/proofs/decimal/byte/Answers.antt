@@ -7,16 +7,16 @@ use Rattle.files.specs.Event.{spoiled}
 use Rattle.files.proofs.Spelling.{unspoiled, plain_read}
 use Rattle.files.proofs.decimal.byte.Goals as goal
 
-pub returns-then-is-spoiled : goal.returns-then-is-spoiled
-returns-then-is-spoiled c = λ n small e. both_ways (spoiled c.args.text.now) (unspoiled c.args.text.now n small e) (sym c.if-is-spoiled.ensures)
+pub returns-then-is_spoiled : goal.returns-then-is_spoiled
+returns-then-is_spoiled c = λ n small e. both_ways (spoiled c.args.text.now) (unspoiled c.args.text.now n small e) (sym c.if-is_spoiled.ensures)
 
-pub returns-in-default : goal.returns-in-default
-returns-in-default c = λ n small e. c.in-default.ensures.cases.0 (subst IsUtf8 (sym e) (IsUtf8-from_ascii _ (IsAscii-decimal n (omega arith))))
+pub returns-in_default : goal.returns-in_default
+returns-in_default c = λ n small e. c.in_default.ensures.cases.0 (subst IsUtf8 (sym e) (IsUtf8-from_ascii _ (IsAscii-decimal n (omega arith))))
 
 pub returns-in-Ok-parse : goal.returns-in-Ok-parse
 returns-in-Ok-parse c =
     let reads = subst (λ t. ParsesUnsigned 8 10 t c.parse.result) c.in-Ok.ensures.cases.0 c.parse.ensures.value.0 in
-    plain_read c.args.text.now c.parse.result _ (sym c.if-is-spoiled.ensures) reads c.in-Ok-parse.is
+    plain_read c.args.text.now c.parse.result _ (sym c.if-is_spoiled.ensures) reads c.in-Ok-parse.is
 
 pub returns-in-Err : goal.returns-in-Err
 returns-in-Err c = λ n small e.

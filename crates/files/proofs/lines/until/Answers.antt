@@ -1,4 +1,4 @@
-use Rattle.std.proofs.Common.{◌≡◌, ◌∙◌, arith, eq-eqb, ne_eqb}
+use Rattle.std.proofs.Common.{◌∙◌, arith, eq-eqb, ne_eqb}
 use Rattle.files.proofs.Parting.{before_more, before_stop, before_end}
 use Rattle.files.proofs.lines.until.Goals as goal
 
