@@ -2,6 +2,8 @@
 //
 // A line of the input is a whole file: `|` stands for a line end, `~` for a tab, and `{12:ab}` for twelve times `ab`. A line
 // that begins with `#` is printed as it is.
+#![tactic(auto)]
+
 mod shorthand;
 
 use shorthand::expanded;

@@ -1,5 +1,7 @@
 // Takes the library's own claims apart: of every list it changes one field of one claim at a time. The check must refuse
 // such a list, or accept it with the verdict of the list that was changed.
+#![tactic(auto)]
+
 mod changes;
 
 use anyhow::anyhow;

@@ -1,4 +1,6 @@
 // Reads a log file from standard input, and prints the report on it.
+#![tactic(auto)]
+
 use std::io;
 use std::io::Read;
 

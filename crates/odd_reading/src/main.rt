@@ -1,4 +1,6 @@
 // A reading of a crate's own is bound, valued and judged as those of the library are.
+#![tactic(auto)]
+
 mod odd;
 
 use odd::Odd;
