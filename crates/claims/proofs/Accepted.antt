@@ -12,7 +12,7 @@ use Rattle.readings.specs.Meaning.{Meaning}
 use Rattle.readings.specs.declared.bound.BoundRule.{BoundRule}
 use Rattle.verdicts.specs.Valuation.{wrong_event}
 use Rattle.claims.specs.Ways.{verdict_of}
-use Rattle.claims.specs.Claims.{claim_at, same_sign, says, cites, meets, placed, supported, last_of, rooted, unheard, wrong, bad_end, unsupported_at, unsupported, refusal, checked}
+use Rattle.claims.specs.Claims.{claim_at, same_sign, says, cites, placed, supported, last_of, rooted, unheard, wrong, bad_end, unsupported_at, unsupported, refusal, checked}
 use Rattle.claims.specs.Written.{claim_count, unwritten}
 use Rattle.claims.specs.declared.claim.Claim.{Claim}
 use Rattle.claims.specs.declared.claim.Sign.{Sign}

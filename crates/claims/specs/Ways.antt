@@ -1,6 +1,6 @@
 -- What the value of a node at a place can rest on: the rules of support, one clause for each kind of node. Assumes nothing.
 -- Places and nodes count from 0 here, as in the table of nodes: place n is the empty rest of a trace of n events.
-use Rattle.std.specs.Prelude.{ℕ, ◌+◌, Bool, true, false, cond, ◌&&◌, ◌||◌, List, length, nat_lt, slice_index}
+use Rattle.std.specs.Prelude.{ℕ, ◌+◌, Bool, true, false, cond, ◌&&◌, ◌||◌, length, nat_lt, slice_index}
 use Rattle.rules.specs.Rules.{nodes_of}
 use Rattle.rules.specs.Tree.{node_at}
 use Rattle.rules.specs.declared.node.Unary.{Unary}

@@ -1,4 +1,6 @@
 // Claims for the verdict of a rule on a trace: what supports them, and their check and writing.
+#![tactic(auto)]
+
 mod checking;
 mod claim;
 mod grounds;

@@ -1,4 +1,6 @@
 // Examples of what rules mean, proved of the definitions that the library's contracts cite.
+#![tactic(auto)]
+
 ghost use Rattle.std.specs.Prelude.{◌≡◌, length};
 ghost use Rattle.examples.specs.Table.{table, AllShown};
 
