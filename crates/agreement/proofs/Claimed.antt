@@ -1,9 +1,8 @@
 -- What the check of claims accepts, on a trace without doubt. Assumes nothing.
-use Rattle.std.proofs.Common.{◌≡◌, ℕ, zero, suc, ◌+◌, ◌<◌, ◌≤◌, Bool, true, false, cond, eqb, ltb, ◌↔◌, List, [], ◌∷◌, length, get_or, Some, None, Ok, Option, sym, refl, ap, ◌∙◌, arith}
+use Rattle.std.proofs.Common.{◌≡◌, ℕ, zero, suc, ◌<◌, ◌≤◌, false, eqb, ltb, ◌↔◌, List, [], ◌∷◌, length, get_or, None, Ok, ◌∙◌, arith}
 use Rattle.std.proofs.lemmas.Bool.{cond-true, lt-ltb, eq-eqb}
-use Rattle.rules.specs.declared.fault.Fault.{Fault}
 use Rattle.readings.specs.Meaning.{doubt_set}
-use Rattle.verdicts.specs.Case.{Subject, Case, on, verdict}
+use Rattle.verdicts.specs.Case.{Subject, on, verdict}
 use Rattle.verdicts.specs.Valuation.{wrong_event}
 use Rattle.verdicts.specs.declared.scale.YesNo.{YesNo}
 use Rattle.claims.specs.Claims.{checked, unheard}

@@ -1,10 +1,10 @@
 -- A list of calls: the answer to each, and what lies past. Assumes nothing.
-use Rattle.std.proofs.Common.{◌≡◌, ℕ, ◌+◌, ◌<◌, ◌≤◌, List, length, get_or, take, drop, set, Result, sym, refl, ap, ◌∙◌, subst, ap₂, ⊎_elim, arith}
-use Rattle.std.proofs.lemmas.List.{take_all, drop-drop, drop-set-lt, get_or-set_same, get_or-set_other, get_or_default}
+use Rattle.std.proofs.Common.{◌≡◌, ℕ, ◌+◌, ◌<◌, ◌≤◌, List, length, get_or, take, drop, set, Result, sym, ap, ◌∙◌, subst, ⊎_elim, arith}
+use Rattle.std.proofs.lemmas.List.{drop-drop, drop-set-lt, get_or-set_same, get_or-set_other, get_or_default}
 use Rattle.std.proofs.lemmas.Bool.{cases_eq}
 use Rattle.rules.specs.declared.fault.Fault.{Fault}
 use Rattle.verdicts.specs.Case.{Subject}
-use Rattle.monitor.specs.History.{History, played, refusal, after, told_of}
+use Rattle.monitor.specs.History.{History, played, refusal, told_of}
 use Rattle.monitor.specs.Serves.{Stands, Serves}
 use Rattle.monitor.specs.Standings.{Tells, Answers}
 use Rattle.monitor.specs.declared.call.Call.{Call}

@@ -1,6 +1,6 @@
 -- A set that is gathered number by number. Assumes nothing.
-use Rattle.std.proofs.Common.{◌≡◌, ℕ, ◌+◌, ◌<◌, ◌≤◌, Bool, true, false, ◌||◌, eqb, Decides, sym, refl, ap, ◌∙◌, subst, ap₂, ⊎_elim, arith}
-use mathlib.Core.Bool.{or_false}
+use Rattle.std.proofs.Common.{◌≡◌, ℕ, ◌+◌, ◌<◌, ◌≤◌, Bool, true, false, ◌||◌, eqb, Decides, sym, refl, ap, ◌∙◌, subst, ⊎_elim, arith}
+use mathlib.Core.Bool.{or-false}
 use Rattle.std.proofs.lemmas.Bool.{cases_eq, eq-eqb, ne_eqb, or_right}
 
 -- of the numbers below n the set has those that P holds of, and it has none above
@@ -10,7 +10,7 @@ Gathered P n f = ((k : ℕ) → k < n → Decides (f k) (P k)) × ((k : ℕ) →
 module _ (P : ℕ → Type 0) (n : ℕ) (f g : ℕ → Bool) (old : Gathered P n f) where
   pub gathered_yes : P n → ((k : ℕ) → g k ≡ (f k || eqb n k)) → Gathered P (n + 1) g
   gathered_yes p is =
-      let other : (k : ℕ) → (n ≡ k → ⊥) → g k ≡ f k = λ k ne. is k ∙ ap (λ (x : Bool). f k || x) (ne_eqb n k ne) ∙ or_false (f k) in
+      let other : (k : ℕ) → (n ≡ k → ⊥) → g k ≡ f k = λ k ne. is k ∙ ap (λ (x : Bool). f k || x) (ne_eqb n k ne) ∙ or-false (f k) in
       let here : g n ≡ true = is n ∙ or_right (f n) (eqb n n) (eq-eqb n n refl) in (
         λ k h. ⊎_elim
             (λ (e : n ≡ k). ((λ _. subst P e p), (λ _. ap g (sym e) ∙ here)))

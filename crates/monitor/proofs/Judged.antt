@@ -1,8 +1,8 @@
 -- What a standing tells: the verdict, and whether it is for good. Assumes nothing.
-use Rattle.std.proofs.Common.{◌≡◌, ℕ, ◌<◌, ◌≤◌, Bool, true, false, cond, leb, ◌↔◌, List, [], ◌∷◌, ◌++◌, map, length, take, Decides, sym, refl, ap, ◌∙◌, subst, ap₂, arith}
+use Rattle.std.proofs.Common.{◌≡◌, ℕ, ◌<◌, ◌≤◌, Bool, true, false, cond, leb, ◌↔◌, List, [], ◌∷◌, ◌++◌, map, length, Decides, sym, refl, ap, ◌∙◌, subst, ap₂, arith}
 use Rattle.std.proofs.lemmas.List.{append-nil, length-take-le}
 use Rattle.rules.specs.Rules.{letter_count, tree_of_rule}
-use Rattle.readings.specs.Meaning.{Meaning, on_set, doubt_set, Possible}
+use Rattle.readings.specs.Meaning.{Meaning, on_set}
 use Rattle.verdicts.specs.Case.{Subject, on}
 use Rattle.verdicts.specs.Meaning.{constant, means, rows}
 use Rattle.verdicts.specs.Valuation.{row_of, laid}
@@ -18,7 +18,7 @@ use Rattle.polynomials.proofs.Values.{in_cong}
 use Rattle.reachable.specs.Reach as reach
 use Rattle.reachable.specs.Reach.{Moves, MayAll, ForGood}
 use Rattle.progression.specs.Obligations.{obligations}
-use Rattle.progression.specs.Progress.{is_kept, moves_of, at_end}
+use Rattle.progression.specs.Progress.{is_kept, moves_of}
 use Rattle.progression.specs.Tables.{StandsFor}
 use Rattle.progression.proofs.Exact.{rest_value, vec_lt}
 use Rattle.monitor.specs.Monitored.{subject, watched, residual_of, Undoubted, Each, Decided}

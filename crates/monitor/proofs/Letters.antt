@@ -1,8 +1,8 @@
 -- The letters of an event, as a row of verdicts and as a set, and the sets that events may show. Assumes nothing.
-use Rattle.std.proofs.Common.{◌≡◌, ℕ, ◌+◌, ◌^◌, ◌<◌, ◌≤◌, Bool, true, false, List, [], ◌∷◌, map, length, get_or, take, Decides, sym, refl, ap, ◌∙◌, subst, ⊎_elim, arith, pow_mono}
+use Rattle.std.proofs.Common.{◌≡◌, ℕ, ◌+◌, ◌^◌, ◌<◌, ◌≤◌, false, List, map, length, get_or, take, sym, refl, ap, ◌∙◌, ⊎_elim, arith, pow_mono}
 use Rattle.std.proofs.lemmas.List.{get_or_past, get_or-map, length-map, length-take}
 use Rattle.std.proofs.lemmas.Bool.{cases_lt}
-use Rattle.readings.specs.Meaning.{Meaning, mark_of, is_on, worth, on_set, doubt_set, Possible}
+use Rattle.readings.specs.Meaning.{Meaning, mark_of, is_on, on_set}
 use Rattle.readings.specs.declared.mark.Mark.{Mark}
 use Rattle.readings.specs.declared.mark.Mark.TheVariants.{Off, On, Doubt}
 use Rattle.readings.proofs.Bits.{worth_place}
@@ -14,7 +14,6 @@ use Rattle.verdicts.specs.declared.scale.YesNo.{YesNo}
 use Rattle.verdicts.specs.declared.scale.YesNo.TheVariants.{Broken}
 use Rattle.polynomials.specs.Sets.{bit_at}
 use Rattle.polynomials.proofs.Digits.{bit_small}
-use Rattle.reachable.specs.Reach.{Moves, MayAll}
 
 on_worth : (k : Mark) → constant yes_no (is_on k) ≡ worth_of yes_no Broken k
 on_worth Off = refl

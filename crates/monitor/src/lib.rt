@@ -1,4 +1,6 @@
 // The monitor of a bound rule: after each event it says whether the rule is kept or broken, so far or for good.
+#![tactic(auto)]
+
 mod call;
 mod guard;
 mod inner;

@@ -10,10 +10,9 @@ use Rattle.verdicts.specs.Step.{at, step_row}
 use Rattle.verdicts.specs.YesNo.{yes_no}
 use Rattle.verdicts.specs.declared.scale.YesNo.{YesNo}
 use Rattle.polynomials.specs.Held.{vectors, vectors_of}
-use Rattle.polynomials.specs.Polynomial.{Polynomial, product_over, substitute, value}
+use Rattle.polynomials.specs.Polynomial.{value}
 use Rattle.polynomials.specs.Sets.{in_set}
 use Rattle.polynomials.specs.declared.vectors.VectorSet.{VectorSet}
-use Rattle.polynomials.proofs.Sums.{sum_cong}
 use Rattle.polynomials.proofs.Valued.{value_variable}
 use Rattle.progression.specs.Obligations.{node_of, obligations, number, place}
 use Rattle.progression.specs.Progress.{nothing, letters_in, later, poly_within, poly_at, change, is_kept}

@@ -1,4 +1,6 @@
 // Progression: what is left of a rule after an event, as a polynomial in the values that its obligations will have on the rest.
+#![tactic(auto)]
+
 mod find;
 mod operators;
 mod plan;

@@ -1,8 +1,6 @@
 use Rattle.std.proofs.Common.{◌≡◌, ℕ, List, length, get_or, take, drop, Result, sym, refl, ap, ◌∙◌, subst, ap₂, arith}
 use Rattle.std.proofs.lemmas.List.{take_all}
-use Rattle.rules.specs.Rules.{node_count, nodes_of, letter_count}
 use Rattle.rules.specs.declared.fault.Fault.{Fault}
-use Rattle.rules.specs.declared.rule.Rule.{Rule}
 use Rattle.verdicts.specs.Case.{Subject, subject_of, on}
 use Rattle.claims.proofs.Right.{Bound, evaluated}
 use Rattle.monitor.specs.History.{History, opened, played}
@@ -14,7 +12,7 @@ use Rattle.monitor.specs.declared.standing.Standing.{Standing}
 use Rattle.monitor.proofs.Judged.{numbers_long}
 use Rattle.agreement.specs.Agreement.{Agreement}
 use Rattle.agreement.proofs.Claimed.{accepted, checks}
-use Rattle.agreement.proofs.Replayed.{Told, stands_more, told_past, told_next, past_more, past_set}
+use Rattle.agreement.proofs.Replayed.{stands_more, told_past, told_next, past_more, past_set}
 use Rattle.agreement.proofs.replaying.replay.Goals as goal
 use Rattle.agreement.proofs.replaying.replay.Goals.{then-i-answers, else-i-answers}
 

@@ -8,5 +8,5 @@ loop-k-init c = any_none (λ k. looks_at c.args.j (node_at c.args.nodes.now k))
 
 pub loop-k-preserved : goal.loop-k-preserved
 loop-k-preserved c =
-    any_more c.loop-k.k (λ k. looks_at c.args.j (node_at c.args.nodes.now k)) c.loop-k.found c.looks-at-found.result
-    c.loop-k.invariant c.looks-at-found.ensures
+    any_more c.loop-k.k (λ k. looks_at c.args.j (node_at c.args.nodes.now k)) c.loop-k.found c.looks_at-found.result
+    c.loop-k.invariant c.looks_at-found.ensures

@@ -1,4 +1,4 @@
-use Rattle.std.proofs.Common.{◌≡◌, ℕ, sym, refl, ap, ◌∙◌, subst}
+use Rattle.std.proofs.Common.{ℕ, refl, subst}
 use Rattle.std.proofs.lemmas.Result.{err_from_is_err_and}
 use Rattle.polynomials.specs.Polynomial.{substitute}
 use Rattle.progression.specs.Progress.{change}
@@ -8,19 +8,19 @@ use Rattle.monitor.proofs.Calls.{event_serves, event_refused}
 use Rattle.monitor.proofs.Histories.{inner_same}
 use Rattle.monitor.proofs.monitor.Monitor.event.Goals as goal
 
-pub returns-in-err-letters : goal.returns-in-err-letters
-returns-in-err-letters g c =
+pub returns-in_err-letters : goal.returns-in_err-letters
+returns-in_err-letters g c =
     let old = c.args.self.now in
-    let p = err_from_is_err_and c.from-residual.result c.from-residual.ensures.1 in
+    let p = err_from_is_err_and c.from_residual.result c.from_residual.ensures.1 in
     rw (p.1, p.2) record {
       reading = refl;
-      serves = event_refused (subject (g.R.Reading.meaning old.reading) old.inner.setup) old.inner _ _ c.args.code c.in-err-letters.ensures (inner_same old.inner _ refl refl refl refl refl);
+      serves = event_refused (subject (g.R.Reading.meaning old.reading) old.inner.setup) old.inner _ _ c.args.code c.in_err-letters.ensures (inner_same old.inner _ refl refl refl refl refl);
     }
 
 pub returns : goal.returns
 returns g c =
     let old = c.args.self.now in
-    let h = c.in-ok-letters.ensures in
+    let h = c.in_ok-letters.ensures in
     record {
       reading = refl;
       serves = event_serves (subject (g.R.Reading.meaning old.reading) old.inner.setup) old.inner _ c.standing.result c.args.code h.0 refl refl

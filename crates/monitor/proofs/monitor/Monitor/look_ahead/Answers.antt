@@ -1,4 +1,4 @@
-use Rattle.std.proofs.Common.{◌≡◌, ℕ, ◌+◌, sym, refl, ap, ◌∙◌, subst}
+use Rattle.std.proofs.Common.{◌≡◌, ℕ, ◌+◌, refl, ap, ◌∙◌, subst}
 use Rattle.std.proofs.lemmas.Result.{err_from_is_err_and}
 use Rattle.readings.specs.Meaning.{on_set}
 use Rattle.polynomials.specs.Polynomial.{substitute}
@@ -15,13 +15,13 @@ use Rattle.monitor.proofs.monitor.Monitor.look_ahead.Goals as goal
 monitor_same : {R : Type 0} (w : Monitor R) (i : Inner) → i ≡ w.inner → ◌≡◌ {A = Monitor R} record { reading = w.reading; inner = i } w
 monitor_same {R} w i e = let F : Inner → Monitor R = λ j. record { reading = w.reading; inner = j } in ap F e
 
-pub returns-in-err-admitted : goal.returns-in-err-admitted
-returns-in-err-admitted g c =
+pub returns-in_err-admitted : goal.returns-in_err-admitted
+returns-in_err-admitted g c =
     let old = c.args.self.now in
-    let p = err_from_is_err_and c.from-residual.result c.from-residual.ensures.1 in
+    let p = err_from_is_err_and c.from_residual.result c.from_residual.ensures.1 in
     rw (p.1, p.2) record {
       same = monitor_same old _ (inner_same old.inner _ refl (c.drop-guard.ensures ∙ c.new-guard.ensures.saved) refl refl refl);
-      serves = look_refused (subject (g.R.Reading.meaning old.reading) old.inner.setup) old.inner _ _ c.args.code c.in-err-admitted.ensures (inner_same old.inner _ refl (c.drop-guard.ensures ∙ c.new-guard.ensures.saved) refl refl refl);
+      serves = look_refused (subject (g.R.Reading.meaning old.reading) old.inner.setup) old.inner _ _ c.args.code c.in_err-admitted.ensures (inner_same old.inner _ refl (c.drop-guard.ensures ∙ c.new-guard.ensures.saved) refl refl refl);
     }
 
 pub returns : goal.returns
@@ -29,7 +29,7 @@ returns g c =
     let old = c.args.self.now in
     let m = g.R.Reading.meaning old.reading in
     let b = subject m old.inner.setup in
-    let free = c.in-ok-admitted.ensures in
+    let free = c.in_ok-admitted.ensures in
     let same = inner_same old.inner _ refl (c.drop-guard-2.ensures ∙ c.new-guard.ensures.saved) refl refl refl in
     let shown : c.show-letters.result.0 ≡ on_set m c.args.code b.numbers = c.show-letters.ensures.on ∙ ap (on_set m c.args.code) c.letters.ensures in
     record {

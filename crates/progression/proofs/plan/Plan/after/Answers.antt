@@ -7,5 +7,5 @@ use Rattle.progression.proofs.plan.Plan.after.Goals as goal
 pub returns : goal.returns
 returns c P is s l =
     let Q = change c.args.self.now.rule c.args.letters in
-    c.substitute-values.ensures Q (λ i v h k. c.changes.ensures i h v k) s l
+    c.substitute_values.ensures Q (λ i v h k. c.changes.ensures i h v k) s l
     ∙ substitute_same (terms c.args.left) P Q is s

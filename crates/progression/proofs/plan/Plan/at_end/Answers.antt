@@ -8,7 +8,7 @@ use Rattle.polynomials.proofs.Digits.{set_none, set_more, set_skip}
 use Rattle.progression.specs.Obligations.{node_of, obligations, place}
 use Rattle.progression.specs.Progress.{is_kept, at_end}
 use Rattle.progression.proofs.plan.Plan.at_end.Goals as goal
-use Rattle.progression.proofs.plan.Plan.at_end.Goals.{then-ends-kept, else-ends-kept}
+use Rattle.progression.proofs.plan.Plan.at_end.Goals.{then-ends_kept, else-ends_kept}
 
 abbrev test : Rule → ℕ → Bool
 test r i = ltb i (obligations r) && is_kept (means yes_no (decode (node_of r) (place r i)) [])
@@ -19,9 +19,9 @@ loop-i-init c = set_none (test c.args.self.now.rule)
 pub loop-i-preserved : goal.loop-i-preserved
 loop-i-preserved c =
     let f : ℕ → Bool = test c.args.self.now.rule in
-    elim c.if-ends-kept.branch [
-      | then-ends-kept w ↦ w.vector-is ∙ set_more c.loop-i.i c.loop-i.vector f (omega arith) c.loop-i.invariant (sym w.if-ends-kept.ensures)
-      | else-ends-kept w ↦ w.vector-is ∙ set_skip c.loop-i.i c.loop-i.vector f c.loop-i.invariant (sym w.if-ends-kept.ensures)
+    elim c.if-ends_kept.branch [
+      | then-ends_kept w ↦ w.vector-is ∙ set_more c.loop-i.i c.loop-i.vector f (omega arith) c.loop-i.invariant (sym w.if-ends_kept.ensures)
+      | else-ends_kept w ↦ w.vector-is ∙ set_skip c.loop-i.i c.loop-i.vector f c.loop-i.invariant (sym w.if-ends_kept.ensures)
     ]
 
 pub returns : goal.returns

@@ -12,25 +12,25 @@ use Rattle.progression.proofs.Decoded.{node_below}
 use Rattle.progression.proofs.Tabled.{node_more}
 use Rattle.progression.proofs.plan.Plan.node_tables.Goals as goal
 
-pub node-table-table-requires : goal.node-table-table-requires
-node-table-table-requires c =
+pub node_table-table-requires : goal.node_table-table-requires
+node_table-table-requires c =
     let r = c.args.self.now.rule in
     let j = c.loop-j.j in
     let low : j < node_count r = omega (arith, c.nodes-nodes.ensures.long) in
     let same : node_at c.nodes-nodes.result.now j ≡ node_of r j = ap (λ (ns : List Node). node_at ns j) c.nodes-nodes.ensures.same in
-    (omega (arith, r.few), subst (Below j) (sym same) (node_below r j low))
+    record { j_bound = omega (arith, r.few); below = subst (Below j) (sym same) (node_below r j low) }
 
 pub loop-j-preserved : goal.loop-j-preserved
 loop-j-preserved c =
     let p = c.args.self.now in
     let a = c.args.letters in
     let j = c.loop-j.j in
-    let x = c.node-table-table.result in
+    let x = c.node_table-table.result in
     let low : j < node_count p.rule = omega (arith, c.nodes-nodes.ensures.long) in
     let node : Node = node_at c.nodes-nodes.result.now j in
     let same : node ≡ node_of p.rule j = ap (λ (ns : List Node). node_at ns j) c.nodes-nodes.ensures.same in (
       length-set c.loop-j.tables j x ∙ c.loop-j.invariant.0,
       store_more (λ k y. (v : ℕ) → v < 256 → vectors y v ≡ value (poly_at p.rule a k) v) c.loop-j.tables j x (record { bits = no_bits })
           (omega (arith, p.rule.few, c.loop-j.invariant.0)) c.loop-j.invariant.1
-          (node_more p a c.loop-j.tables j low c.loop-j.invariant.1 node same x c.node-table-table.ensures),
+          (node_more p a c.loop-j.tables j low c.loop-j.invariant.1 node same x c.node_table-table.ensures),
     )
