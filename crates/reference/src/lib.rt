@@ -1,5 +1,7 @@
 // The judge again, written apart from the library and sharing nothing with it: plain and slow, by the quantifiers of the
 // meaning. It is there to be compared with.
+#![tactic(auto)]
+
 mod book;
 mod bytes;
 mod claims;

@@ -1,5 +1,7 @@
 // Compares the library with the judge that was written apart, on inputs made at random. The arguments, if any, are the seed and
 // the number of cases.
+#![tactic(auto)]
+
 mod call_lists;
 mod claim_lists;
 mod examples;
