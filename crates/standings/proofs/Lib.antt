@@ -1,0 +1,4 @@
+pub mod Apart
+pub mod Read
+pub mod Standing
+pub mod Shown
