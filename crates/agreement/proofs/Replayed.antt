@@ -29,8 +29,8 @@ module _ (b : Subject) (h : History) (calls : List Call) (i : ℕ) where
 
   pub told_past : (xs ys : List (Result Standing Fault)) → ys ≡ xs → length xs ≤ i → Told b h calls i xs → Told b h calls (i + 1) ys
   told_past xs ys same past told k c d below within =
-      let in-xs : k < length xs = subst (λ (l : List (Result Standing Fault)). k < length l) same within in
-      subst (λ (l : List (Result Standing Fault)). Answered b h calls k (get_or calls k c) (get_or l k d)) (sym same) (told k c d (omega arith) in-xs)
+      let in_xs : k < length xs = subst (λ (l : List (Result Standing Fault)). k < length l) same within in
+      subst (λ (l : List (Result Standing Fault)). Answered b h calls k (get_or calls k c) (get_or l k d)) (sym same) (told k c d (omega arith) in_xs)
 
   pub told_next : (xs ys : List (Result Standing Fault)) (r : Result Standing Fault) (call : Call) (old new : Inner) → ys ≡ set xs i r → i < length xs → i < length calls → length ys ≡ length xs →
       Serves b (get_or calls i call) old new r → Stands b (played b h (take i calls)) old → Told b h calls i xs → Told b h calls (i + 1) ys

@@ -146,8 +146,8 @@ module _ (k : Case) (ok : Bound k) where
     claim_supported q j i low within at =
         let c = claim_of k q j in
         let w : ℕ → ℕ → Ways = λ p a. ways_at k p a (sign_of (meant k q j)) in
-        let early-facts : OfWays (Earlier n m i) (w q j) = subst (λ b. OfWays (Earlier n m b) (w q j)) at (early k ok.noded q j (sign_of (meant k q j)) low within) in
-        let by : meets cs i c (w q j) ≡ true = meeting i c (w q j) refl refl early-facts (right_at k ok q j (sign_of (meant k q j)) within ∙ agree_own (meant k q j)) in
+        let early_facts : OfWays (Earlier n m i) (w q j) = subst (λ b. OfWays (Earlier n m b) (w q j)) at (early k ok.noded q j (sign_of (meant k q j)) low within) in
+        let by : meets cs i c (w q j) ≡ true = meeting i c (w q j) refl refl early_facts (right_at k ok q j (sign_of (meant k q j)) within ∙ agree_own (meant k q j)) in
         let back : w (q + 1 - 1) (j + 1 - 1) ≡ w q j = let e : q + 1 - 1 ≡ q = omega arith in let f : j + 1 - 1 ≡ j = omega arith in ap₂ w e f in
         let stands_at : placed n m c ≡ true = placed_all n m c (record { from = omega arith; to = omega arith; first = omega arith; last = omega arith }) in
         and_from (placed n m c) (meets cs i c (w (q + 1 - 1) (j + 1 - 1))) stands_at (ap (meets cs i c) back ∙ by)

@@ -16,7 +16,7 @@ use Rattle.verdicts.specs.Case.{Case, case_of, record_of}
 use Rattle.verdicts.specs.Meaning.{means, letter, unary, binary, rows}
 use Rattle.verdicts.specs.Step.{Known, unary_end, unary_row, binary_end, binary_row}
 use Rattle.verdicts.specs.Valuation.{worth_of, row_of, laid}
-use Rattle.verdicts.specs.YesNo.{yes_no, lower, higher, other as otherVerdict}
+use Rattle.verdicts.specs.YesNo.{yes_no, lower, higher, other as other_verdict}
 use Rattle.verdicts.specs.declared.scale.YesNo.{YesNo}
 use Rattle.verdicts.specs.declared.scale.YesNo.TheVariants.{Broken, Kept}
 use Rattle.verdicts.proofs.Lift.{decode_step}
@@ -33,7 +33,7 @@ use Rattle.verdicts.proofs.Laws.{yes_no_laws}
 -- a value, or the other one, as a sign says
 abbrev toward : Sign → YesNo → YesNo
 toward Holds v = v
-toward Fails v = otherVerdict v
+toward Fails v = other_verdict v
 
 toward_holds : (s : Sign) (v : YesNo) → agree s v ≡ agree Holds (toward s v)
 toward_holds Holds v = refl
@@ -45,7 +45,7 @@ toward_fails Holds v = refl
 toward_fails Fails Kept = refl
 toward_fails Fails Broken = refl
 
-turn_right : (s : Sign) (v : YesNo) → agree (other s) v ≡ agree s (otherVerdict v)
+turn_right : (s : Sign) (v : YesNo) → agree (other s) v ≡ agree s (other_verdict v)
 turn_right Holds Kept = refl
 turn_right Holds Broken = refl
 turn_right Fails Kept = refl
@@ -69,7 +69,7 @@ higher_fails Kept v = refl
 higher_fails Broken v = refl
 
 abbrev equal : YesNo → YesNo → YesNo
-equal u v = higher (lower u v) (lower (otherVerdict u) (otherVerdict v))
+equal u v = higher (lower u v) (lower (other_verdict u) (other_verdict v))
 
 equal_holds : (u v : YesNo) → (agree Holds u && agree Holds v || agree Fails u && agree Fails v) ≡ agree Holds (equal u v)
 equal_holds Kept Kept = refl
@@ -91,7 +91,7 @@ until_fails : (u v w : YesNo) → (agree Fails v && agree Fails u || agree Fails
 until_fails u Kept w = refl
 until_fails u Broken w = lower_fails u w
 
-back : (v : YesNo) → otherVerdict (otherVerdict v) ≡ v
+back : (v : YesNo) → other_verdict (other_verdict v) ≡ v
 back Kept = refl
 back Broken = refl
 
@@ -143,7 +143,7 @@ module _ (t : ℕ → ℕ → YesNo) where
 
     module _ (b : ℕ) where
       xor_right : given t (alike (fact q a Holds) (fact q b Fails) s) ≡ agree s (binary_end yes_no Binary.Xor (t q a) (t q b))
-      xor_right = alike_right (fact q a Holds) (fact q b Fails) s ∙ ap (λ v. agree s (higher (lower (t q a) (otherVerdict (t q b))) (lower (otherVerdict (t q a)) v))) (back (t q b))
+      xor_right = alike_right (fact q a Holds) (fact q b Fails) s ∙ ap (λ v. agree s (higher (lower (t q a) (other_verdict (t q b))) (lower (other_verdict (t q a)) v))) (back (t q b))
 
       between_end : (o : Binary) → given t (between_ways false q j o a b s) ≡ agree s (binary_end yes_no o (t q a) (t q b))
       between_end Binary.Until = only_right _ s

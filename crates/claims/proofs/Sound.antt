@@ -40,8 +40,8 @@ module _ (k : Case) (ok : Bound k) (cs : List Claim) where
       let place : c.place - 1 ≡ x.place = omega (arith, is.place) in
       let node : c.node - 1 ≡ x.node = omega (arith, is.node) in
       let holds : meant k (c.place - 1) (c.node - 1) ≡ verdict_of c.sign = before (n - 1) (omega (arith, is.from, is.to)) in
-      let true-at : meant k x.place x.node ≡ verdict_of x.sign = sym (ap₂ (meant k) place node) ∙ holds ∙ ap verdict_of is.sign in
-      ap (agree x.sign) true-at ∙ agree_own x.sign
+      let true_at : meant k x.place x.node ≡ verdict_of x.sign = sym (ap₂ (meant k) place node) ∙ holds ∙ ap verdict_of is.sign in
+      ap (agree x.sign) true_at ∙ agree_own x.sign
 
   resting : (i : ℕ) (c : Claim) (g : Grounds) → Before i → rests cs i c g ≡ true → stands (meant k) g ≡ true
   resting i c Nothing before h = refl

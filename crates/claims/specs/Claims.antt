@@ -5,7 +5,8 @@ use Rattle.rules.specs.Rules.{node_count, nodes_of, tree_of_rule}
 use Rattle.rules.specs.Tree.{decode, node_at}
 use Rattle.rules.specs.declared.fault.Fault.{Fault}
 use Rattle.rules.specs.declared.fault.Fault.TheVariants.{ManyEvents, BadEnd, Unsupported}
-use Rattle.verdicts.specs.Case.{Case, record_of, verdict}
+-- a case, its record and its verdict belong to evaluation, and may be named from here
+pub use Rattle.verdicts.specs.Case.{Case, record_of, verdict}
 use Rattle.verdicts.specs.Meaning.{means}
 use Rattle.verdicts.specs.Outcome.{recorded}
 use Rattle.verdicts.specs.Valuation.{laid, Laid, wrong_event}

@@ -7,7 +7,7 @@ use Rattle.rules.specs.declared.node.Unary.{Unary}
 use Rattle.rules.specs.declared.node.Binary.{Binary}
 use Rattle.rules.specs.declared.node.Node.{Node}
 use Rattle.readings.specs.Meaning.{mark_of}
-use Rattle.verdicts.specs.Case.{Case}
+pub use Rattle.verdicts.specs.Case.{Case, case_of}
 use Rattle.verdicts.specs.Meaning.{constant}
 use Rattle.verdicts.specs.Valuation.{worth_of}
 use Rattle.verdicts.specs.YesNo.{yes_no}

@@ -3,7 +3,7 @@ ghost use Rattle.std.specs.Prelude.{◌≡◌, ◌+◌, ◌<◌, ◌≤◌, leng
 ghost use Rattle.rules.specs.First.{answer};
 ghost use Rattle.rules.specs.Rules.{node_count};
 ghost use Rattle.readings.specs.Binding.{numbers_of};
-ghost use Rattle.verdicts.specs.Case.{case_of};
+ghost use Rattle.claims.specs.Ways.{case_of};
 ghost use Rattle.claims.specs.Claims.{same_sign, says, cites, rests, meets, placed, supported, rooted, checked, claim_at, unsupported, Sound, Exact, Evaluated};
 
 use crate::claim::{Claim, Sign};

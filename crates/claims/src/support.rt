@@ -1,10 +1,9 @@
 // The rules of support, as code. Places and nodes count from 0 here: place n is the empty rest.
 ghost use Rattle.std.specs.Prelude.{◌≡◌, ◌+◌, ◌<◌, ◌≤◌};
 ghost use Rattle.rules.specs.Rules.{node_count, letter_count};
-ghost use Rattle.verdicts.specs.Case.{case_of};
 ghost use Rattle.verdicts.specs.Meaning.{constant};
 ghost use Rattle.verdicts.specs.YesNo.{yes_no};
-ghost use Rattle.claims.specs.Ways.{other, fact, turned, only, all, any, alike, comes, before_ways, between_ways, letter_at, ways_at, verdict_of};
+ghost use Rattle.claims.specs.Ways.{case_of, other, fact, turned, only, all, any, alike, comes, before_ways, between_ways, letter_at, ways_at, verdict_of};
 ghost use Rattle.claims.specs.declared.claim.Sign.TheVariants.{Holds};
 
 use crate::claim::Sign;

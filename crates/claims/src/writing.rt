@@ -2,8 +2,7 @@
 ghost use Rattle.std.specs.Prelude.{◌≡◌, ◌+◌, ◌-◌, ◌*◌, ◌/◌, ◌%◌, ◌<◌, ◌≤◌, length};
 ghost use Rattle.rules.specs.First.{answer, Left};
 ghost use Rattle.rules.specs.Rules.{node_count};
-ghost use Rattle.verdicts.specs.Case.{case_of};
-ghost use Rattle.claims.specs.Ways.{is_true, stands, given};
+ghost use Rattle.claims.specs.Ways.{case_of, is_true, stands, given};
 ghost use Rattle.claims.specs.Written.{claim_count, number, chosen, claim_on, claim_next, shown, sign_if, Earlier, OfGrounds, OfWays, unwritten, Written};
 
 use crate::checking::{MOST_EVENTS, same_sign};

@@ -15,13 +15,13 @@ no_digit h = absurd (not-suc-le-zero (le_of_suc-le-suc (le_of_suc-le-suc h)))
 -- an operation that works digit by digit, and on two digits as f on their tests, works on members as f
 module _ (op : ℕ → ℕ → ℕ) (f : Bool → Bool → Bool)
     (shr : (a b k : ℕ) → op a b / 2 ^ k ≡ op (a / 2 ^ k) (b / 2 ^ k))
-    (low-digits : (a b k : ℕ) → op a b % 2 ^ k ≡ op (a % 2 ^ k) (b % 2 ^ k))
+    (low_digits : (a b k : ℕ) → op a b % 2 ^ k ≡ op (a % 2 ^ k) (b % 2 ^ k))
     (both : (x y : ℕ) → x < 2 → y < 2 → eqb (op x y) 1 ≡ f (eqb x 1) (eqb y 1)) where
   by_digits : (i a b : ℕ) → bit_at i (op a b) ≡ f (bit_at i a) (bit_at i b)
   unfolding bit_at
   by_digits i a b =
       ap (λ (x : ℕ). eqb (x % 2) 1) (shr a b i)
-      ∙ ap (λ (x : ℕ). eqb x 1) (low-digits (a / 2 ^ i) (b / 2 ^ i) 1)
+      ∙ ap (λ (x : ℕ). eqb x 1) (low_digits (a / 2 ^ i) (b / 2 ^ i) 1)
       ∙ both (a / 2 ^ i % 2) (b / 2 ^ i % 2) (mod-lt (a / 2 ^ i) (omega arith)) (mod-lt (b / 2 ^ i) (omega arith))
 
 -- the three operations on two digits

@@ -58,7 +58,7 @@ all_held s l =
 
 -- ---- an operation on words that works bit by bit as f does
 
-module _ (op : ℕ → ℕ → ℕ) (f : Bool → Bool → Bool) (on-bits : (i a b : ℕ) → bit_at i (op a b) ≡ f (bit_at i a) (bit_at i b)) where
+module _ (op : ℕ → ℕ → ℕ) (f : Bool → Bool → Bool) (on_bits : (i a b : ℕ) → bit_at i (op a b) ≡ f (bit_at i a) (bit_at i b)) where
   -- on each of the four words
   each_word : (x y : Bits256) → Bits256
   each_word x y = record { a = op x.a y.a; b = op x.b y.b; c = op x.c y.c; d = op x.d y.d }
@@ -77,12 +77,12 @@ module _ (op : ℕ → ℕ → ℕ) (f : Bool → Bool → Bool) (on-bits : (i a
       → holds (record { a = op x.a y.a; b = op x.b y.b; c = op x.c y.c; d = op x.d y.d }) s ≡ f (holds x s) (holds y s)
   unfolding holds each_word
   by_each_word z x y s =
-      ap (bit_at (s % 64)) (words_of z x y (s / 64)) ∙ on-bits (s % 64) (word_of x (s / 64)) (word_of y (s / 64))
+      ap (bit_at (s % 64)) (words_of z x y (s / 64)) ∙ on_bits (s % 64) (word_of x (s / 64)) (word_of y (s / 64))
 
   -- with `1 << k`, on one word
   one_bit : (x k j : ℕ) → j < 64 → bit_at j (op x ((1 * 2 ^ k) % 2 ^ 64)) ≡ f (bit_at j x) (eqb k j)
   one_bit x k j h =
-      on-bits j x ((1 * 2 ^ k) % 2 ^ 64)
+      on_bits j x ((1 * 2 ^ k) % 2 ^ 64)
       ∙ ap (f (bit_at j x)) (bit_mod j 64 (1 * 2 ^ k) h ∙ ap (bit_at j) (one-mul (2 ^ k)) ∙ bit_pow k j)
 
   -- in one word, equal bits are equal places

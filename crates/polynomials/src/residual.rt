@@ -1,7 +1,7 @@
 // A polynomial by its products: bit s says whether the product of the variables in the set with number s is one of its terms.
 ghost use Rattle.std.specs.Prelude.{◌≡◌, ℕ, ◌<◌, false, ◌&&◌, Decides, nat_eq};
 ghost use Rattle.polynomials.specs.Held.{terms, vectors};
-ghost use Rattle.polynomials.specs.Polynomial.{value, one as oneTerm, variable as alone, sum as summed, product as multiplied};
+ghost use Rattle.polynomials.specs.Polynomial.{value, one as one_term, variable as alone, sum as summed, product as multiplied};
 ghost use Rattle.polynomials.specs.Sets.{◌⊕◌, in_set};
 
 use super::bits::Bits256;
@@ -24,7 +24,7 @@ impl Residual {
 
     // The constant 1: the product of no variables.
     pub fn one() -> Residual
-        ensures { (s : ℕ) → terms result s ≡ oneTerm s }
+        ensures { (s : ℕ) → terms result s ≡ one_term s }
     {
         Residual::zero().flip(0)
     }

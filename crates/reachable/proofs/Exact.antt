@@ -27,12 +27,12 @@ pub for_good_iff : (m : Moves) (table : ℕ → Bool) (x : Bool) → ForGood m t
 for_good_iff m table x =
     (λ f v (w, may, at). ap table (sym at) ∙ f w may, λ f w may. f (vec m w) (w, may, refl))
 
-pub exact_of : (m : Moves) (in-set : ℕ → Bool) → ((v : ℕ) → (in-set v ≡ true) ↔ Attainable m v) → Exact m in-set
-exact_of m in-set h v = (λ i. ∣ (h v).0 i ∣₁, λ t. ∥∥₁_elim t (Bool-set (in-set v) true) (h v).1)
+pub exact_of : (m : Moves) (in_set : ℕ → Bool) → ((v : ℕ) → (in_set v ≡ true) ↔ Attainable m v) → Exact m in_set
+exact_of m in_set h v = (λ i. ∣ (h v).0 i ∣₁, λ t. ∥∥₁_elim t (Bool-set (in_set v) true) (h v).1)
 
-pub exact_for_good : (m : Moves) (in-set table : ℕ → Bool) (x : Bool) → Exact m in-set
-    → ((v : ℕ) → in-set v ≡ true → table v ≡ x) ↔ ForGood m table x
-exact_for_good m in-set table x exact = (
+pub exact_for_good : (m : Moves) (in_set table : ℕ → Bool) (x : Bool) → Exact m in_set
+    → ((v : ℕ) → in_set v ≡ true → table v ≡ x) ↔ ForGood m table x
+exact_for_good m in_set table x exact = (
   λ f w may. f (vec m w) ((exact (vec m w)).1 ∣ (w, may, refl) ∣₁),
   λ f v i. ∥∥₁_elim ((exact v).0 i) (Bool-set (table v) x) ((for_good_iff m table x).0 f v),
 )

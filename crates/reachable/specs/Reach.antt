@@ -34,4 +34,4 @@ ForGood m table x = (w : List ℕ) → MayAll m w → table (vec m w) ≡ x
 
 -- the set has the attainable vectors and no others; that there is a rest, and not which, so that a ghost field can hold this
 abbrev pub Exact : Moves → (ℕ → Bool) → Type 0
-Exact m in-set = (v : ℕ) → (in-set v ≡ true) ↔ ∥ Attainable m v ∥₁
+Exact m in_set = (v : ℕ) → (in_set v ≡ true) ↔ ∥ Attainable m v ∥₁

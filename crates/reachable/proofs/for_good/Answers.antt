@@ -4,10 +4,10 @@ use Rattle.reachable.specs.Reach.{Moves, Exact, ForGood}
 use Rattle.reachable.proofs.Exact.{exact_for_good}
 use Rattle.reachable.proofs.for_good.Goals as goal
 
-module _ (m : Moves) (in-set table : ℕ → Bool) (exact : Exact m in-set) where
-  decided : (r x kept : Bool) → kept ≡ x → Decides r ((v : ℕ) → in-set v ≡ true → table v ≡ x) → Decides r (ForGood m table kept)
+module _ (m : Moves) (in_set table : ℕ → Bool) (exact : Exact m in_set) where
+  decided : (r x kept : Bool) → kept ≡ x → Decides r ((v : ℕ) → in_set v ≡ true → table v ≡ x) → Decides r (ForGood m table kept)
   decided r x kept same d =
-      let all = exact_for_good m in-set table x exact in
+      let all = exact_for_good m in_set table x exact in
       subst (λ b. Decides r (ForGood m table b)) (sym same) (λ e. all.0 (d.0 e), λ f. d.1 (all.1 f))
 
 pub returns-then-kept : goal.returns-then-kept
