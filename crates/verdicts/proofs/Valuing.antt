@@ -1,18 +1,13 @@
 -- The values of a trace, letter by letter and row by row. Assumes nothing.
-use Rattle.std.proofs.Common.{◌≡◌, ℕ, ◌+◌, ◌*◌, ◌/◌, ◌%◌, ◌^◌, ◌<◌, ◌≤◌, Bool, cond, eqb, ltb, List, [], ◌∷◌, ◌++◌, length, get_or, take, drop, set, Some, None, Ok, Err, Option, sym, refl, ap, ◌∙◌, subst, ap₂, suc-mul, zero-mul, arith}
+use Rattle.std.proofs.Common.{◌≡◌, ℕ, ◌+◌, ◌*◌, ◌<◌, ◌≤◌, List, [], ◌∷◌, ◌++◌, length, get_or, take, drop, Some, None, Ok, Err, Option, sym, refl, ap, ◌∙◌, suc-mul, zero-mul, arith}
 use borrow.Rule.Slice.PartMut.{put_mid}
-use Rattle.std.proofs.lemmas.List.{append-nil, append_assoc, drop-drop, length-append, length-map, length-take-le, map_more, take_all, take_more, take_more_set}
+use Rattle.std.proofs.lemmas.List.{append-nil, append_assoc, drop-drop, length-append, length-map, length-take-le, take_more}
 use Rattle.std.proofs.lemmas.Slice.{take-put_mid, drop-put_mid}
-use Rattle.std.proofs.lemmas.Bool.{cond-true, cond-false, lt-ltb, le-ltb}
-use Rattle.rules.specs.First.{answer, first}
+use Rattle.rules.specs.First.{answer}
 use Rattle.rules.specs.declared.fault.Fault.{Fault}
-use Rattle.rules.specs.declared.fault.Fault.TheVariants.{ManyEvents, ShortBuffer}
-use Rattle.readings.specs.Meaning.{Meaning, mark_of, is_on, in_doubt, on_set, doubt_set}
-use Rattle.readings.specs.declared.mark.Mark.{Mark}
-use Rattle.readings.specs.declared.mark.Mark.TheVariants.{Off, On, Doubt}
-use Rattle.readings.proofs.Bits.{worth_place}
+use Rattle.readings.specs.Meaning.{Meaning, mark_of}
 use Rattle.verdicts.specs.Scale.{Ops}
-use Rattle.verdicts.specs.Valuation.{worth_of, row_of, laid, Laid, unlaid, wrong_event}
+use Rattle.verdicts.specs.Valuation.{worth_of, row_of, laid, Laid}
 
 -- lists that agree past m agree past m + k
 past_more : {V : Type 0} (m k n : ℕ) (xs ys : List V) → n ≡ m + k → drop m xs ≡ drop m ys → drop n xs ≡ drop n ys
@@ -47,20 +42,6 @@ module _ {V : Type 0} (o : Ops V) (d : V) where
           front = take-put_mid a w out row (length after) end (omega arith) ∙ ap (λ vs. vs ++ row) (ap (λ n. take n out) (sym far) ∙ so.front) ∙ sym more;
           past = drop-put_mid a w out row (length after) (omega arith) (omega arith) (omega arith) ∙ rest;
         }
-
--- why a trace is refused
-module _ (m : Meaning) (takes : Bool) (ns cs : List ℕ) (room : ℕ) where
-  pub many_events : 4095 < length cs → unlaid m takes ns cs room ≡ Some ManyEvents
-  unfolding unlaid
-  many_events h = cond-true (ltb 4095 (length cs)) _ _ (lt-ltb 4095 (length cs) h)
-
-  pub short_room : length cs ≤ 4095 → room < length cs * length ns → unlaid m takes ns cs room ≡ Some (ShortBuffer (length cs * length ns))
-  unfolding unlaid
-  short_room few h = cond-false (ltb 4095 (length cs)) _ _ (le-ltb 4095 (length cs) few) ∙ cond-true (ltb room (length cs * length ns)) _ _ (lt-ltb room (length cs * length ns) h)
-
-  pub by_event : length cs ≤ 4095 → length cs * length ns ≤ room → unlaid m takes ns cs room ≡ first (length cs) (wrong_event m takes ns cs)
-  unfolding unlaid
-  by_event few h = cond-false (ltb 4095 (length cs)) _ _ (le-ltb 4095 (length cs) few) ∙ cond-false (ltb room (length cs * length ns)) _ _ (le-ltb room (length cs * length ns) h)
 
 -- what an answer tells of its refusal
 module _ {V : Type 0} where

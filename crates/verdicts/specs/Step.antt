@@ -1,5 +1,5 @@
 -- One step of an evaluation: a node's value from those of its operands. Assumes nothing.
-use Rattle.std.specs.Prelude.{◌≡◌, ℕ, ◌+◌, ◌<◌, List, length, slice_index_or}
+use Rattle.std.specs.Prelude.{◌≡◌, ℕ, ◌<◌, List, length, slice_index_or}
 use Rattle.rules.specs.Tree.{decode, node_at}
 use Rattle.rules.specs.declared.node.Unary.{Unary}
 use Rattle.rules.specs.declared.node.Binary.{Binary}

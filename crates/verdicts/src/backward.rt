@@ -40,6 +40,7 @@ fn letters_at<S: Scale>(valuation: &[S], k: usize, p: usize) -> &[S]
     ensures same { result.now ≡ take k (drop (p * k) valuation.now) }
     ensures long { length result.now ≡ k }
 {
+    // Cut by index: a rule without letters has rows of no width, and `chunks` takes none.
     let start = p * k;
     &valuation[start..start + k]
 }

@@ -31,6 +31,7 @@ pub fn admitted<S: Scale, R: Reading>(
 }
 
 // The first event that is refused. Events count from 1.
+#[tactic(auto, using(crate::proofs::Valuing::answered_ok, rules::proofs::First::first_start, rules::proofs::First::first_more))]
 pub fn check_events<S: Scale, R: Reading>(
     reading: &R,
     numbers: &[u8],

@@ -27,6 +27,7 @@ fn lay_row<S: Scale, R: Reading>(bound: &BoundRule<R>, code: u32, row: &mut [S])
 {
     let reading = bound.reading();
     let numbers = bound.numbers();
+    // Written by index: of what an adapter of `iter_mut` writes, no contract of the library tells.
     for (i, n) in numbers.iter().enumerate() {
         row[i] = worth(reading.mark(code, *n));
     }
@@ -38,6 +39,7 @@ fn lay<S: Scale, R: Reading>(bound: &BoundRule<R>, trace: &[u32], out: &mut [S])
     ensures { Laid (laid S.ops S.doubtful (R.meaning bound.now.reading) (numbers_of bound.now) trace.now) out.old out.new }
 {
     let k = bound.numbers().len();
+    // Cut by index: a rule without letters has rows of no width, and `chunks_mut` takes none.
     for (i, code) in trace.iter().enumerate() {
         let start = i * k;
         lay_row(bound, *code, &mut out[start..start + k]);
@@ -46,7 +48,7 @@ fn lay<S: Scale, R: Reading>(bound: &BoundRule<R>, trace: &[u32], out: &mut [S])
 
 // Writes what the rule's k letters are worth at each event: letter l at event p goes to place (p - 1) * k + l, all counted
 // from 1. What lies past is left, and a refusal leaves all.
-#[tactic(auto, unfolding(crate::specs::Valuation::unlaid))]
+#[tactic(auto, using(crate::proofs::Valuing::answered_err, crate::proofs::Valuing::answered_ok), unfolding(crate::specs::Valuation::unlaid))]
 pub fn valuate<S: Scale, R: Reading>(
     bound: &BoundRule<R>,
     trace: &[u32],

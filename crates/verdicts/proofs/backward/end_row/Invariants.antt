@@ -1,5 +1,5 @@
-use Rattle.std.proofs.Common.{◌∷◌, [], List, drop}
-use Rattle.rules.specs.Rules.{nodes_of, node_count}
+use Rattle.std.proofs.Common.{[]}
+use Rattle.rules.specs.Rules.{nodes_of}
 use Rattle.verdicts.specs.Step.{Valued}
 use Rattle.verdicts.proofs.backward.end_row.Given as goal
 

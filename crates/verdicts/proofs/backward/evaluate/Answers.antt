@@ -1,25 +1,12 @@
-use Rattle.std.proofs.Common.{◌≡◌, ℕ, ◌-◌, ◌*◌, ◌<◌, ◌≤◌, length, None, Ok, sym, ap, ◌∙◌, subst, mul-le-mul, arith, rules}
+use Rattle.std.proofs.Common.{◌≡◌, ◌-◌, ◌<◌, length, None, Ok, sym, ap, ◌∙◌, subst, arith, rules}
 use Rattle.std.proofs.lemmas.List.{get_or_read}
-use Rattle.rules.specs.Rules.{node_count, letter_count, nodes_of, tree_of_rule}
+use Rattle.rules.specs.Rules.{node_count, nodes_of, tree_of_rule}
 use Rattle.verdicts.specs.Meaning.{means}
-use Rattle.verdicts.specs.Step.{Ordered, Lettered, at}
+use Rattle.verdicts.specs.Step.{at}
 use Rattle.rules.specs.First.{Left, answer}
 use Rattle.verdicts.specs.Outcome.{Filled, refused, recorded}
 use Rattle.rules.proofs.Flat.{flat_decode}
 use Rattle.verdicts.proofs.backward.evaluate.Goals as goal
-
-pub overflow_mul-n : goal.overflow_mul-n
-overflow_mul-n g c =
-    let few : length c.letters-k.result.now ≤ 8 = omega arith in
-    let low : c.args.n ≤ 65535 = omega arith in
-    let up : c.args.n * length c.letters-k.result.now ≤ 65535 * 8 = mul-le-mul low few in
-    omega arith
-
-pub fill-requires : goal.fill-requires
-fill-requires g c = record {
-  letters_in_bounds = subst (λ k. c.args.n * k ≤ length c.args.valuation.now) c.letters-k.ensures.long c.if-valuation-n.false;
-  nodes_in_bounds = omega arith;
-}
 
 pub returns : goal.returns
 returns g c =

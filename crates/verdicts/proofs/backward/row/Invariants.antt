@@ -1,4 +1,4 @@
-use Rattle.std.proofs.Common.{◌∷◌, [], List, drop}
+use Rattle.std.proofs.Common.{◌∷◌, List}
 use Rattle.rules.specs.Rules.{nodes_of, node_count}
 use Rattle.verdicts.specs.Step.{Valued}
 use Rattle.verdicts.proofs.backward.row.Given as goal

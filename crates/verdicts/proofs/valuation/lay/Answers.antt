@@ -1,4 +1,4 @@
-use Rattle.std.proofs.Common.{◌≡◌, ◌+◌, ◌-◌, ◌*◌, ◌≤◌, length, ap, arith}
+use Rattle.std.proofs.Common.{◌≡◌, ◌+◌, ◌-◌, ◌*◌, length, ap, arith}
 use Rattle.readings.specs.Binding.{numbers_of}
 use Rattle.verdicts.proofs.Fill.{row_within}
 use Rattle.verdicts.proofs.Valuing.{laid_more}
