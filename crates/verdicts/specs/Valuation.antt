@@ -29,7 +29,7 @@ wrong_code m takes ns at c = cond (nat_lt c m.codes) (cond (takes || doubt_set m
 
 -- what is wrong with event i of a trace, counted from 0
 abbrev pub wrong_event : Meaning → Bool → List ℕ → List ℕ → ℕ → Option Fault
-wrong_event m takes ns cs i = cond (nat_lt (slice_index cs i) m.codes) (cond (takes || doubt_set m (slice_index cs i) ns == 0) None (Some (InDoubt (i + 1)))) (Some (HighCode (i + 1)))
+wrong_event m takes ns cs i = wrong_code m takes ns (i + 1) (slice_index cs i)
 
 -- WHY A TRACE IS REFUSED, over letters with these numbers, on a scale that takes doubt or not, with room for so many values
 unfoldable pub unlaid : Meaning → Bool → List ℕ → List ℕ → ℕ → Option Fault

@@ -1,34 +1,12 @@
-use Rattle.std.proofs.Common.{◌≡◌, ℕ, ◌-◌, ◌*◌, ◌<◌, ◌≤◌, length, None, Ok, sym, ap, ◌∙◌, subst, mul-le-mul, arith, rules}
+use Rattle.std.proofs.Common.{◌≡◌, ◌-◌, ◌<◌, length, None, Ok, sym, ap, ◌∙◌, subst, arith, rules}
 use Rattle.std.proofs.lemmas.List.{get_or_read}
-use Rattle.rules.specs.Rules.{node_count, letter_count, nodes_of, tree_of_rule}
+use Rattle.rules.specs.Rules.{node_count, nodes_of, tree_of_rule}
 use Rattle.verdicts.specs.Meaning.{means}
-use Rattle.verdicts.specs.Step.{Ordered, Lettered, at}
+use Rattle.verdicts.specs.Step.{at}
 use Rattle.rules.specs.First.{Left, answer}
 use Rattle.verdicts.specs.Outcome.{Filled, refused, recorded}
-use Rattle.verdicts.proofs.Fill.{filled_as}
 use Rattle.rules.proofs.Flat.{flat_decode}
-use Rattle.verdicts.proofs.Rules.{nodes_ordered, nodes_lettered}
 use Rattle.verdicts.proofs.backward.evaluate.Goals as goal
-
-pub overflow_mul-n : goal.overflow_mul-n
-overflow_mul-n g c =
-    let few : length c.letters-k.result.now ≤ 8 = omega arith in
-    let low : c.args.n ≤ 65535 = omega arith in
-    let up : c.args.n * length c.letters-k.result.now ≤ 65535 * 8 = mul-le-mul low few in
-    omega arith
-
-pub fill-requires : goal.fill-requires
-fill-requires g c =
-    let rule = c.args.rule.now in
-    let same = c.nodes-nodes.ensures.same in
-    let long : length (nodes_of rule) ≡ node_count rule = sym (ap length same) ∙ c.nodes-nodes.ensures.long in
-    let Letters : ℕ → Type 0 = λ k. Lettered k c.nodes-nodes.result.now in
-    record {
-      ordered = subst Ordered (sym same) (nodes_ordered rule long);
-      lettered = subst Letters (sym c.letters-k.ensures.long) (subst (Lettered (letter_count rule)) (sym same) (nodes_lettered rule long));
-      k_in_bounds = c.if-valuation-n.false;
-      nodes_in_bounds = omega arith;
-    }
 
 pub returns : goal.returns
 returns g c =
@@ -38,13 +16,13 @@ returns g c =
     let old = c.args.scratch.now in
     let new = c.fill.new.scratch in
     let ops = g.S.Scale.ops in
-    let nodes = c.nodes-nodes.result.now in
+    let nodes = c.nodes-m.result.now in
     let no = refused rule n xs old in
-    let same = c.nodes-nodes.ensures.same in
-    let long : length (nodes_of rule) ≡ node_count rule = sym (ap length same) ∙ c.nodes-nodes.ensures.long in
+    let same = c.nodes-m.ensures.same in
+    let long : length (nodes_of rule) ≡ node_count rule = sym (ap length same) ∙ c.nodes-m.ensures.long in
     let none : no ≡ None = search rules in
-    let done = filled_as ops nodes (nodes_of rule) (node_count rule) (length c.letters-k.result.now) (letter_count rule) n xs old new same long c.letters-k.ensures.long c.fill.ensures in
-    let last : length nodes - 1 ≡ node_count rule - 1 = ap (λ i. i - 1) c.nodes-nodes.ensures.long in
+    let done = c.fill.ensures in
+    let last : length nodes - 1 ≡ node_count rule - 1 = ap (λ i. i - 1) c.nodes-m.ensures.long in
     let within : length nodes - 1 < length new = omega arith in
     let low : node_count rule - 1 < node_count rule = omega (arith, rule.some) in
     let root : c.index-scratch-m.result ≡ means ops (tree_of_rule rule) (recorded rule n xs) =
