@@ -91,27 +91,20 @@ module _ (k : Case) (cs : List Claim) where
   unfolding refusal
   wrong_event_lem f e = ap (λ a. or_else a (or_else (bad_end (node_count k.rule) cs) (unsupported k cs))) e
 
-  pub bad_end_lem : unheard k ≡ None → rooted (node_count k.rule) cs ≡ false → refusal k cs ≡ Some (BadEnd (length cs))
+  pub bad_end_lem : (f : Fault) → unheard k ≡ None → bad_end (node_count k.rule) cs ≡ Some f → refusal k cs ≡ Some f
   unfolding refusal
-  bad_end_lem heard e = ap₂ (λ a b. or_else a (or_else b (unsupported k cs))) heard (cond-false (rooted (node_count k.rule) cs) _ _ e)
+  bad_end_lem f heard e = ap₂ (λ a b. or_else a (or_else b (unsupported k cs))) heard e
 
-  pub by_claims : unheard k ≡ None → rooted (node_count k.rule) cs ≡ true → refusal k cs ≡ unsupported k cs
+  pub by_claims : unheard k ≡ None → bad_end (node_count k.rule) cs ≡ None → refusal k cs ≡ unsupported k cs
   unfolding refusal
-  by_claims heard e = ap₂ (λ a b. or_else a (or_else b (unsupported k cs))) heard (cond-true (rooted (node_count k.rule) cs) _ _ e)
+  by_claims heard e = ap₂ (λ a b. or_else a (or_else b (unsupported k cs))) heard e
 
--- the first wrong event, as a call on the reading and the numbers tells it
-module _ {R : Type 0} (means : R → Meaning) (b : BoundRule R) (cs ns : List ℕ) (r : R) (reading : r ≡ b.reading) (numbers : ns ≡ numbers_of b) where
-  abbrev told : Option Fault
-  told = first (length cs) (wrong_event (means r) false ns cs)
+  -- what a check answers that has this refusal, or none
+  pub checked_err : (f : Fault) → refusal k cs ≡ Some f → checked k cs ≡ Err f
+  checked_err f e = ap (λ a. answer a (verdict_of (last_of cs).sign)) e
 
-  told_wrong : told ≡ wrong (case_of means b cs)
-  told_wrong = ap₂ (λ x xs. first (length cs) (wrong_event (means x) false xs cs)) reading numbers
-
-  pub wrong_none : (v : Unit {0}) → answer told (tt {0}) ≡ Ok v → wrong (case_of means b cs) ≡ None
-  wrong_none v e = sym told_wrong ∙ (answer_none told (tt {0}) v e).0
-
-  pub wrong_some : (y : Fault) → answer told (tt {0}) ≡ Err y → wrong (case_of means b cs) ≡ Some y
-  wrong_some y e = sym told_wrong ∙ answer_some told (tt {0}) y e
+  pub checked_ok : refusal k cs ≡ None → checked k cs ≡ Ok (verdict_of (last_of cs).sign)
+  checked_ok e = ap (λ a. answer a (verdict_of (last_of cs).sign)) e
 
 -- why the writing is refused, with so much room
 module _ (k : Case) (room : ℕ) where

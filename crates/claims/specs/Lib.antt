@@ -1,3 +1,5 @@
 pub mod Ways
 pub mod Claims
 pub mod Written
+pub mod Bound
+pub mod Posed

@@ -1,5 +1,9 @@
 // What a claim can rest on. Places and nodes count from 0 here, as in the table of nodes: place n is the empty rest.
+ghost use Rattle.std.specs.Prelude.{◌≡◌};
+ghost use Rattle.claims.specs.Ways.{turned};
+
 use crate::claim::Sign;
+use std::ops::Not;
 
 // That a node holds, or fails, at a place.
 #[derive(Clone, Copy)]
@@ -9,7 +13,20 @@ pub struct Fact {
     pub(crate) sign: Sign,
 }
 
-// No fact, one, or two in this order.
+impl Not for Fact {
+    type Output = Fact;
+
+    ghost not_gives = { λ x r. r ≡ turned x };
+
+    fn not(self) -> Fact {
+        Fact {
+            sign: !self.sign,
+            ..self
+        }
+    }
+}
+
+// No fact, one, or two in this order. As an Option it would nest: `Some((x, Some(y)))`.
 #[derive(Clone, Copy)]
 pub enum Grounds {
     Nothing,
@@ -17,7 +34,7 @@ pub enum Grounds {
     Both(Fact, Fact),
 }
 
-// The grounds that each suffice, the preferred first.
+// The grounds that each suffice, the preferred first. As an Option it would nest likewise.
 #[derive(Clone, Copy)]
 pub enum Ways {
     Never,
