@@ -21,9 +21,9 @@ module _ (cs : List Claim) (i : ℕ) (fits : i ≤ length cs) where
   cites_taken k x =
       let here : (b : Bool) → (ltb 0 k && leb k i) ≡ b → (b && says (claim_at before (k - 1)) x) ≡ (b && says (claim_at cs (k - 1)) x) =
       λ b. elim b as (λ v. (ltb 0 k && leb k i) ≡ v → (v && says (claim_at before (k - 1)) x) ≡ (v && says (claim_at cs (k - 1)) x)) [
-        true ↦ λ e.
-        let p = and_parts (ltb 0 k) (leb k i) e in
-        ap (λ c. says c x) (get_or-take i cs (k - 1) _ (omega (arith, ltb-true 0 k p.0, leb-true k i p.1)))
+        | true ↦ λ e.
+            let p = and_parts (ltb 0 k) (leb k i) e in
+            ap (λ c. says c x) (get_or-take i cs (k - 1) _ (omega (arith, ltb-true 0 k p.0, leb-true k i p.1)))
         | false ↦ λ e. refl
       ] in
       ap (λ n. ltb 0 k && leb k n && says (claim_at before (k - 1)) x) (length-take-le i cs fits) ∙ here (ltb 0 k && leb k i) refl

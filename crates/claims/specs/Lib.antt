@@ -3,3 +3,4 @@ pub mod Claims
 pub mod Written
 pub mod Bound
 pub mod Posed
+pub mod Told

@@ -7,9 +7,7 @@ ghost use Rattle.std.proofs.Props.{props};
 use crate::spot::Spot;
 use readings::{BoundRule, Reading};
 use rules::{Fault, Node};
-use verdicts::{YesNo, check_events};
-
-const MOST_EVENTS: usize = 4095;
+use verdicts::{MOST_EVENTS, YesNo, check_events};
 
 // The numbers of the letters and the table of the nodes are those of the bound rule.
 #[derive(Drop)]

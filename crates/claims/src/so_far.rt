@@ -1,7 +1,5 @@
 // What the claims that are written so far show.
-ghost use Rattle.std.specs.Prelude.{◌≡◌, ◌<◌, length};
-ghost use Rattle.claims.specs.Ways.{is_true, stands, given};
-ghost use Rattle.claims.specs.Written.{index, number, chosen, claim_on, shown, Earlier, OfGrounds, OfWays};
+ghost use Rattle.std.specs.Prelude.{◌<◌, length};
 
 use crate::claim::{Claim, Sign};
 use crate::grounds::{Fact, Grounds, Ways};
@@ -17,9 +15,14 @@ pub struct SoFar<'a> {
 }
 
 impl<'a> SoFar<'a> {
+    ghost use Rattle.std.specs.Prelude.{◌≡◌};
+    ghost use Rattle.claims.specs.Ways.{is_true, stands, given};
+    ghost use Rattle.claims.specs.Written.{index, number, chosen, claim_on, OfGrounds, OfWays};
+    ghost use Rattle.claims.specs.Told.{told, Known};
+
     // The index of the claim on a fact.
     fn index(&self, x: Fact) -> usize
-        requires { Earlier self.now.n self.now.m (length self.now.claims.now) x }
+        requires { Known self.now x }
         ensures { result ≡ index self.now.n self.now.m x.place x.node }
     {
         (self.n - x.place) * self.m + x.node
@@ -27,15 +30,15 @@ impl<'a> SoFar<'a> {
 
     // Whether the claims show that a fact is true.
     fn shows(&self, x: Fact) -> bool
-        requires { Earlier self.now.n self.now.m (length self.now.claims.now) x }
-        ensures { result ≡ is_true (shown self.now.n self.now.m self.now.claims.now) x }
+        requires { Known self.now x }
+        ensures { result ≡ is_true (told self.now) x }
     {
         x.sign == self.claims[self.index(x)].sign
     }
 
     fn shows_all(&self, grounds: Grounds) -> bool
-        requires { OfGrounds (Earlier self.now.n self.now.m (length self.now.claims.now)) grounds }
-        ensures { result ≡ stands (shown self.now.n self.now.m self.now.claims.now) grounds }
+        requires { OfGrounds (Known self.now) grounds }
+        ensures { result ≡ stands (told self.now) grounds }
     {
         match grounds {
             Grounds::Nothing => true,
@@ -45,8 +48,8 @@ impl<'a> SoFar<'a> {
     }
 
     pub(crate) fn shows_some(&self, w: Ways) -> bool
-        requires { OfWays (Earlier self.now.n self.now.m (length self.now.claims.now)) w }
-        ensures { result ≡ given (shown self.now.n self.now.m self.now.claims.now) w }
+        requires { OfWays (Known self.now) w }
+        ensures { result ≡ given (told self.now) w }
     {
         match w {
             Ways::Never => false,
@@ -56,8 +59,8 @@ impl<'a> SoFar<'a> {
     }
 
     pub(crate) fn choose(&self, w: Ways) -> Grounds
-        requires { OfWays (Earlier self.now.n self.now.m (length self.now.claims.now)) w }
-        ensures { result ≡ chosen (shown self.now.n self.now.m self.now.claims.now) w }
+        requires { OfWays (Known self.now) w }
+        ensures { result ≡ chosen (told self.now) w }
     {
         match w {
             Ways::Never => Grounds::Nothing,
@@ -68,7 +71,7 @@ impl<'a> SoFar<'a> {
 
     // The number of the claim on a fact.
     fn number(&self, x: Fact) -> u32
-        requires { Earlier self.now.n self.now.m (length self.now.claims.now) x }
+        requires { Known self.now x }
         ensures { result ≡ number self.now.n self.now.m x }
     {
         self.index(x) as u32 + 1
@@ -76,7 +79,7 @@ impl<'a> SoFar<'a> {
 
     // The claim on a node at a place, with a sign and the grounds for it.
     pub(crate) fn claim_on(&self, spot: Spot, sign: Sign, grounds: Grounds) -> Claim
-        requires { OfGrounds (Earlier self.now.n self.now.m (length self.now.claims.now)) grounds }
+        requires { OfGrounds (Known self.now) grounds }
         ensures { result ≡ claim_on self.now.n self.now.m spot.place spot.own sign grounds }
     {
         let (first, second) = match grounds {

@@ -134,10 +134,7 @@ impl<'a, R: Reading> Case<'a, R> {
             return YesNo::Broken;
         };
         let number = self.numbers[l as usize];
-        match self.bound.reading().mark(code, number) {
-            Mark::On => YesNo::Kept,
-            Mark::Off | Mark::Doubt => YesNo::Broken,
-        }
+        YesNo::from(self.bound.reading().mark(code, number) == Mark::On)
     }
 
     // What a node at a place can rest on to hold, or to fail.
@@ -147,8 +144,7 @@ impl<'a, R: Reading> Case<'a, R> {
     {
         match self.nodes[spot.own] {
             Node::Letter(l) => known(self.letter(spot.place, l), sign),
-            Node::Truth(value) if value => known(YesNo::Kept, sign),
-            Node::Truth(_) => known(YesNo::Broken, sign),
+            Node::Truth(value) => known(value.into(), sign),
             Node::Before(operator, a) => spot.before(operator, a, sign),
             Node::Between(operator, a, b) => spot.between(operator, a, b, sign),
         }
