@@ -21,7 +21,7 @@ use Rattle.claims.specs.declared.grounds.Fact.{Fact}
 
 or_none : {A : Type 0} (a b : Option A) → or_else a b ≡ None → (a ≡ None) × (b ≡ None)
 or_none None b e = (refl, e)
-or_none (Some x) b e = let z : ◌≡◌ {A = ℕ} 0 1 = cc in absurd (omega arith)
+or_none (Some x) b e = cc
 
 -- none of a row is there just where none of its places is
 none_each : {A : Type 0} (f : ℕ → Option A) (n : ℕ) → first n f ≡ None → (i : ℕ) → i < n → f i ≡ None
@@ -39,15 +39,15 @@ none_all f (suc n) e = ap₂ or_else (none_all f n (λ i h. e i (omega arith))) 
 -- an answer that is there had no refusal
 pub answer_none : {V : Type 0} (f : Option Fault) (v w : V) → answer f v ≡ Ok w → (f ≡ None) × (v ≡ w)
 answer_none None v w e = (refl, cc)
-answer_none (Some x) v w e = let z : ◌≡◌ {A = ℕ} 0 1 = cc in absurd (omega arith)
+answer_none (Some x) v w e = cc
 
 pub answer_some : {V : Type 0} (f : Option Fault) (v : V) (y : Fault) → answer f v ≡ Err y → f ≡ Some y
-answer_some None v y e = let z : ◌≡◌ {A = ℕ} 0 1 = cc in absurd (omega arith)
+answer_some None v y e = cc
 answer_some (Some x) v y e = cc
 
 passed : {A : Type 0} (b : Bool) (x : A) → cond b None (Some x) ≡ None → b ≡ true
 passed true x e = refl
-passed false x e = let z : ◌≡◌ {A = ℕ} 0 1 = cc in absurd (omega arith)
+passed false x e = cc
 
 -- the parts of a list that is accepted with a verdict
 pub record Accepted (k : Case) (cs : List Claim) (v : YesNo) : Type 0 where
@@ -80,6 +80,10 @@ accepted_all k cs v a =
 pub few_events : (k : Case) → length k.trace ≤ 4095 → unheard k ≡ wrong k
 unfolding unheard
 few_events k h = cond-false (ltb 4095 (length k.trace)) _ _ (le-ltb 4095 (length k.trace) h)
+
+-- no event is wrong, by a call that answers so
+pub heard_by : (k : Case) (v : Unit {0}) → length k.trace ≤ 4095 → answer (wrong k) (tt {0}) ≡ Ok v → unheard k ≡ None
+heard_by k v few e = few_events k few ∙ (answer_none (wrong k) (tt {0}) v e).0
 
 -- why a list is refused, reason by reason
 module _ (k : Case) (cs : List Claim) where
@@ -122,8 +126,8 @@ module _ (k : Case) (room : ℕ) where
 
 same_sign_lem : (s r : Sign) → same_sign s r ≡ true → s ≡ r
 same_sign_lem Holds Holds h = refl
-same_sign_lem Holds Fails h = let z : ◌≡◌ {A = ℕ} 0 1 = cc in absurd (omega arith)
-same_sign_lem Fails Holds h = let z : ◌≡◌ {A = ℕ} 0 1 = cc in absurd (omega arith)
+same_sign_lem Holds Fails h = cc
+same_sign_lem Fails Holds h = cc
 same_sign_lem Fails Fails h = refl
 
 sign_self : (s : Sign) → same_sign s s ≡ true

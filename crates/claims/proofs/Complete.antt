@@ -39,8 +39,8 @@ agree_own Broken = refl
 
 agree_sign : (s : Sign) (v : YesNo) → agree s v ≡ true → sign_of v ≡ s
 agree_sign Holds Kept h = refl
-agree_sign Holds Broken h = let z : ◌≡◌ {A = ℕ} 0 1 = cc in absurd (omega arith)
-agree_sign Fails Kept h = let z : ◌≡◌ {A = ℕ} 0 1 = cc in absurd (omega arith)
+agree_sign Holds Broken h = cc
+agree_sign Fails Kept h = cc
 agree_sign Fails Broken h = refl
 
 -- values that agree on the facts make the same choice

@@ -1,4 +1,5 @@
 pub mod Ways
+pub mod Any
 pub mod Claims
 pub mod Written
 pub mod Bound

@@ -47,11 +47,7 @@ impl Claim {
     fn meets(self, earlier: &[Claim], w: Ways) -> bool
         ensures { result ≡ meets earlier.now (length earlier.now) self w }
     {
-        match w {
-            Ways::Never => false,
-            Ways::By(g) => self.rests(earlier, g),
-            Ways::Either(g, h) => self.rests(earlier, g) | self.rests(earlier, h),
-        }
+        w.any(|g| self.rests(earlier, g))
     }
 }
 

@@ -57,3 +57,14 @@ pub struct Claim {
     pub first: u32,
     pub second: u32,
 }
+
+impl Claim {
+    // What a place holds before its claim is written.
+    pub const BLANK: Claim = Claim {
+        place: 0,
+        node: 0,
+        sign: Sign::Fails,
+        first: 0,
+        second: 0,
+    };
+}

@@ -1,6 +1,7 @@
 // What a claim can rest on. Places and nodes count from 0 here, as in the table of nodes: place n is the empty rest.
 ghost use Rattle.std.specs.Prelude.{◌≡◌};
 ghost use Rattle.claims.specs.Ways.{turned};
+ghost use Rattle.claims.specs.Any.{ToEach, AnyOf};
 
 use crate::claim::Sign;
 use std::ops::Not;
@@ -40,4 +41,18 @@ pub enum Ways {
     Never,
     By(Grounds),
     Either(Grounds, Grounds),
+}
+
+impl Ways {
+    // Whether some of the grounds pass a test.
+    pub(crate) fn any<F: Fn(Grounds) -> bool>(self, test: F) -> bool
+        requires { ToEach (F.pre test) self }
+        ensures { AnyOf (F.post test) self result }
+    {
+        match self {
+            Ways::Never => false,
+            Ways::By(g) => test(g),
+            Ways::Either(g, h) => test(g) | test(h),
+        }
+    }
 }

@@ -51,11 +51,7 @@ impl<'a> SoFar<'a> {
         requires { OfWays (Known self.now) w }
         ensures { result ≡ given (told self.now) w }
     {
-        match w {
-            Ways::Never => false,
-            Ways::By(g) => self.shows_all(g),
-            Ways::Either(g, h) => self.shows_all(g) | self.shows_all(h),
-        }
+        w.any(|g| self.shows_all(g))
     }
 
     pub(crate) fn choose(&self, w: Ways) -> Grounds

@@ -34,14 +34,11 @@ fn both(x: Fact, y: Fact, sign: Sign) -> Ways
     }
 }
 
-// One of two facts.
+// One of two facts: it fails as both of their opposites hold.
 fn either(x: Fact, y: Fact, sign: Sign) -> Ways
     ensures { result ≡ any x y sign }
 {
-    match sign {
-        Sign::Holds => Ways::Either(Grounds::One(x), Grounds::One(y)),
-        Sign::Fails => Ways::By(Grounds::Both(!x, !y)),
-    }
+    both(!x, !y, !sign)
 }
 
 // Both or neither of two facts.
