@@ -1,16 +1,12 @@
 -- What an accepted list of claims is, part by part. Assumes nothing.
-use Rattle.std.proofs.Common.{◌≡◌, ℕ, zero, suc, ◌+◌, ◌-◌, ◌<◌, ◌≤◌, Bool, true, false, cond, ◌&&◌, eqb, ltb, leb, List, length, Some, None, Ok, Err, Option, sym, refl, ap, ◌∙◌, ap₂, ⊎_elim, arith}
+use Rattle.std.proofs.Common.{◌≡◌, ℕ, zero, suc, ◌+◌, ◌-◌, ◌<◌, ◌≤◌, Bool, true, false, cond, ◌&&◌, eqb, ltb, leb, List, length, Some, None, Ok, Err, Option, refl, ap, ◌∙◌, ap₂, ⊎_elim, arith}
 use Rattle.std.proofs.lemmas.Bool.{and_parts, and_from, cases_eq, cond-true, cond-false, le-ltb, eq-eqb, eqb-true, le-leb, leb-true, lt-ltb, ltb-true}
 use Rattle.rules.specs.First.{answer, first, or_else}
 use Rattle.rules.specs.Rules.{node_count}
 use Rattle.rules.specs.declared.fault.Fault.{Fault}
 use Rattle.rules.specs.declared.fault.Fault.TheVariants.{ManyEvents, ShortBuffer, BadEnd, Unsupported}
-use Rattle.verdicts.specs.Case.{Case, case_of}
+use Rattle.verdicts.specs.Case.{Case}
 use Rattle.verdicts.specs.declared.scale.YesNo.{YesNo}
-use Rattle.readings.specs.Binding.{numbers_of}
-use Rattle.readings.specs.Meaning.{Meaning}
-use Rattle.readings.specs.declared.bound.BoundRule.{BoundRule}
-use Rattle.verdicts.specs.Valuation.{wrong_event}
 use Rattle.claims.specs.Ways.{verdict_of}
 use Rattle.claims.specs.Claims.{claim_at, same_sign, says, cites, placed, supported, last_of, rooted, unheard, wrong, bad_end, unsupported_at, unsupported, refusal, checked}
 use Rattle.claims.specs.Written.{claim_count, unwritten}

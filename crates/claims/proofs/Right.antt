@@ -8,11 +8,8 @@ use Rattle.rules.specs.Tree.{Tree, tree_of, decode, node_at}
 use Rattle.rules.specs.declared.node.Unary.{Unary}
 use Rattle.rules.specs.declared.node.Binary.{Binary}
 use Rattle.rules.specs.declared.node.Node.{Node}
-use Rattle.rules.specs.declared.rule.Rule.{Rule}
-use Rattle.readings.specs.Binding.{numbers_of}
-use Rattle.readings.specs.declared.bound.BoundRule.{BoundRule}
 use Rattle.readings.specs.Meaning.{Meaning, mark_of}
-use Rattle.verdicts.specs.Case.{Case, case_of, record_of}
+use Rattle.verdicts.specs.Case.{Case, record_of}
 use Rattle.verdicts.specs.Meaning.{means, letter, unary, binary, rows}
 use Rattle.verdicts.specs.Step.{Known, unary_end, unary_row, binary_end, binary_row}
 use Rattle.verdicts.specs.Valuation.{worth_of, row_of, laid}

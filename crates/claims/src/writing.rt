@@ -46,6 +46,7 @@ pub fn write<R: Reading>(
         return Err(Fault::ShortBuffer(total));
     }
     case.check_events()?;
+    // by index: each claim is made from those before it, which `iter_mut` would hold
     for i in 0..total {
         out[i] = case.next_claim(&out[..i]);
     }

@@ -2,7 +2,7 @@ use Rattle.std.proofs.Common.{◌≡◌, Some, None, Ok, Err, sym, ap, ◌∙◌
 use Rattle.std.proofs.lemmas.Result.{err_from_is_err_and}
 use Rattle.rules.specs.Rules.{node_count}
 use Rattle.claims.specs.Ways.{verdict_of}
-use Rattle.claims.specs.Claims.{last_of, bad_end, wrong, unheard, unsupported}
+use Rattle.claims.specs.Claims.{last_of, bad_end, wrong, unsupported}
 use Rattle.claims.specs.Posed.{posed}
 use Rattle.claims.proofs.Accepted.{answer_none, answer_some, few_events, heard_by, wrong_event_lem, bad_end_lem, by_claims, checked_err, checked_ok}
 use Rattle.claims.proofs.case.Case.judge.Goals as goal
