@@ -24,7 +24,7 @@ fn counts(number: u32, x: usize) -> bool
 fn cites(earlier: &[Claim], number: u32, x: Fact) -> bool
     ensures { result ≡ cites earlier.now (length earlier.now) number x }
 {
-    number > 0 && number as usize <= earlier.len() && earlier[number as usize - 1].says(x)
+    number > 0 && earlier.get(number as usize - 1).is_some_and(|c| c.says(x))
 }
 
 impl Claim {
@@ -56,10 +56,8 @@ impl<'a, R: Reading> Case<'a, R> {
     fn has(&self, c: Claim) -> bool
         ensures { result ≡ placed (length self.now.trace.now) (node_count self.now.bound.now.rule) c }
     {
-        (c.place > 0)
-            & (c.place as usize <= self.trace.len() + 1)
-            & (c.node > 0)
-            & (c.node as usize <= self.nodes.len())
+        (1..=self.trace.len() + 1).contains(&(c.place as usize))
+            & (1..=self.nodes.len()).contains(&(c.node as usize))
     }
 
     // Whether a claim after the earlier ones is supported.

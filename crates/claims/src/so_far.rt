@@ -5,7 +5,8 @@ use crate::claim::{Claim, Sign};
 use crate::grounds::{Fact, Grounds, Ways};
 use crate::spot::Spot;
 
-// The claims of a case with n events and m nodes that are written so far.
+// The claims of a case with n events and m nodes that are written so far. That one of them is on a fact is asked at each
+// call: it is of the fact and the claims together, so no field of either says it.
 #[derive(Clone, Copy)]
 pub struct SoFar<'a> {
     pub(crate) n: usize,
