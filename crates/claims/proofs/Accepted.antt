@@ -1,16 +1,12 @@
 -- What an accepted list of claims is, part by part. Assumes nothing.
-use Rattle.std.proofs.Common.{◌≡◌, ℕ, zero, suc, ◌+◌, ◌-◌, ◌<◌, ◌≤◌, Bool, true, false, cond, ◌&&◌, eqb, ltb, leb, List, length, Some, None, Ok, Err, Option, sym, refl, ap, ◌∙◌, ap₂, ⊎_elim, arith}
+use Rattle.std.proofs.Common.{◌≡◌, ℕ, zero, suc, ◌+◌, ◌-◌, ◌<◌, ◌≤◌, Bool, true, false, cond, ◌&&◌, eqb, ltb, leb, List, length, Some, None, Ok, Err, Option, refl, ap, ◌∙◌, ap₂, ⊎_elim, arith}
 use Rattle.std.proofs.lemmas.Bool.{and_parts, and_from, cases_eq, cond-true, cond-false, le-ltb, eq-eqb, eqb-true, le-leb, leb-true, lt-ltb, ltb-true}
 use Rattle.rules.specs.First.{answer, first, or_else}
 use Rattle.rules.specs.Rules.{node_count}
 use Rattle.rules.specs.declared.fault.Fault.{Fault}
 use Rattle.rules.specs.declared.fault.Fault.TheVariants.{ManyEvents, ShortBuffer, BadEnd, Unsupported}
-use Rattle.verdicts.specs.Case.{Case, case_of}
+use Rattle.verdicts.specs.Case.{Case}
 use Rattle.verdicts.specs.declared.scale.YesNo.{YesNo}
-use Rattle.readings.specs.Binding.{numbers_of}
-use Rattle.readings.specs.Meaning.{Meaning}
-use Rattle.readings.specs.declared.bound.BoundRule.{BoundRule}
-use Rattle.verdicts.specs.Valuation.{wrong_event}
 use Rattle.claims.specs.Ways.{verdict_of}
 use Rattle.claims.specs.Claims.{claim_at, same_sign, says, cites, placed, supported, last_of, rooted, unheard, wrong, bad_end, unsupported_at, unsupported, refusal, checked}
 use Rattle.claims.specs.Written.{claim_count, unwritten}
@@ -21,7 +17,7 @@ use Rattle.claims.specs.declared.grounds.Fact.{Fact}
 
 or_none : {A : Type 0} (a b : Option A) → or_else a b ≡ None → (a ≡ None) × (b ≡ None)
 or_none None b e = (refl, e)
-or_none (Some x) b e = let z : ◌≡◌ {A = ℕ} 0 1 = cc in absurd (omega arith)
+or_none (Some x) b e = cc
 
 -- none of a row is there just where none of its places is
 none_each : {A : Type 0} (f : ℕ → Option A) (n : ℕ) → first n f ≡ None → (i : ℕ) → i < n → f i ≡ None
@@ -39,15 +35,15 @@ none_all f (suc n) e = ap₂ or_else (none_all f n (λ i h. e i (omega arith))) 
 -- an answer that is there had no refusal
 pub answer_none : {V : Type 0} (f : Option Fault) (v w : V) → answer f v ≡ Ok w → (f ≡ None) × (v ≡ w)
 answer_none None v w e = (refl, cc)
-answer_none (Some x) v w e = let z : ◌≡◌ {A = ℕ} 0 1 = cc in absurd (omega arith)
+answer_none (Some x) v w e = cc
 
 pub answer_some : {V : Type 0} (f : Option Fault) (v : V) (y : Fault) → answer f v ≡ Err y → f ≡ Some y
-answer_some None v y e = let z : ◌≡◌ {A = ℕ} 0 1 = cc in absurd (omega arith)
+answer_some None v y e = cc
 answer_some (Some x) v y e = cc
 
 passed : {A : Type 0} (b : Bool) (x : A) → cond b None (Some x) ≡ None → b ≡ true
 passed true x e = refl
-passed false x e = let z : ◌≡◌ {A = ℕ} 0 1 = cc in absurd (omega arith)
+passed false x e = cc
 
 -- the parts of a list that is accepted with a verdict
 pub record Accepted (k : Case) (cs : List Claim) (v : YesNo) : Type 0 where
@@ -81,6 +77,10 @@ pub few_events : (k : Case) → length k.trace ≤ 4095 → unheard k ≡ wrong 
 unfolding unheard
 few_events k h = cond-false (ltb 4095 (length k.trace)) _ _ (le-ltb 4095 (length k.trace) h)
 
+-- no event is wrong, by a call that answers so
+pub heard_by : (k : Case) (v : Unit {0}) → length k.trace ≤ 4095 → answer (wrong k) (tt {0}) ≡ Ok v → unheard k ≡ None
+heard_by k v few e = few_events k few ∙ (answer_none (wrong k) (tt {0}) v e).0
+
 -- why a list is refused, reason by reason
 module _ (k : Case) (cs : List Claim) where
   pub many_events : 4095 < length k.trace → refusal k cs ≡ Some ManyEvents
@@ -91,27 +91,20 @@ module _ (k : Case) (cs : List Claim) where
   unfolding refusal
   wrong_event_lem f e = ap (λ a. or_else a (or_else (bad_end (node_count k.rule) cs) (unsupported k cs))) e
 
-  pub bad_end_lem : unheard k ≡ None → rooted (node_count k.rule) cs ≡ false → refusal k cs ≡ Some (BadEnd (length cs))
+  pub bad_end_lem : (f : Fault) → unheard k ≡ None → bad_end (node_count k.rule) cs ≡ Some f → refusal k cs ≡ Some f
   unfolding refusal
-  bad_end_lem heard e = ap₂ (λ a b. or_else a (or_else b (unsupported k cs))) heard (cond-false (rooted (node_count k.rule) cs) _ _ e)
+  bad_end_lem f heard e = ap₂ (λ a b. or_else a (or_else b (unsupported k cs))) heard e
 
-  pub by_claims : unheard k ≡ None → rooted (node_count k.rule) cs ≡ true → refusal k cs ≡ unsupported k cs
+  pub by_claims : unheard k ≡ None → bad_end (node_count k.rule) cs ≡ None → refusal k cs ≡ unsupported k cs
   unfolding refusal
-  by_claims heard e = ap₂ (λ a b. or_else a (or_else b (unsupported k cs))) heard (cond-true (rooted (node_count k.rule) cs) _ _ e)
+  by_claims heard e = ap₂ (λ a b. or_else a (or_else b (unsupported k cs))) heard e
 
--- the first wrong event, as a call on the reading and the numbers tells it
-module _ {R : Type 0} (means : R → Meaning) (b : BoundRule R) (cs ns : List ℕ) (r : R) (reading : r ≡ b.reading) (numbers : ns ≡ numbers_of b) where
-  abbrev told : Option Fault
-  told = first (length cs) (wrong_event (means r) false ns cs)
+  -- what a check answers that has this refusal, or none
+  pub checked_err : (f : Fault) → refusal k cs ≡ Some f → checked k cs ≡ Err f
+  checked_err f e = ap (λ a. answer a (verdict_of (last_of cs).sign)) e
 
-  told_wrong : told ≡ wrong (case_of means b cs)
-  told_wrong = ap₂ (λ x xs. first (length cs) (wrong_event (means x) false xs cs)) reading numbers
-
-  pub wrong_none : (v : Unit {0}) → answer told (tt {0}) ≡ Ok v → wrong (case_of means b cs) ≡ None
-  wrong_none v e = sym told_wrong ∙ (answer_none told (tt {0}) v e).0
-
-  pub wrong_some : (y : Fault) → answer told (tt {0}) ≡ Err y → wrong (case_of means b cs) ≡ Some y
-  wrong_some y e = sym told_wrong ∙ answer_some told (tt {0}) y e
+  pub checked_ok : refusal k cs ≡ None → checked k cs ≡ Ok (verdict_of (last_of cs).sign)
+  checked_ok e = ap (λ a. answer a (verdict_of (last_of cs).sign)) e
 
 -- why the writing is refused, with so much room
 module _ (k : Case) (room : ℕ) where
@@ -129,8 +122,8 @@ module _ (k : Case) (room : ℕ) where
 
 same_sign_lem : (s r : Sign) → same_sign s r ≡ true → s ≡ r
 same_sign_lem Holds Holds h = refl
-same_sign_lem Holds Fails h = let z : ◌≡◌ {A = ℕ} 0 1 = cc in absurd (omega arith)
-same_sign_lem Fails Holds h = let z : ◌≡◌ {A = ℕ} 0 1 = cc in absurd (omega arith)
+same_sign_lem Holds Fails h = cc
+same_sign_lem Fails Holds h = cc
 same_sign_lem Fails Fails h = refl
 
 sign_self : (s : Sign) → same_sign s s ≡ true

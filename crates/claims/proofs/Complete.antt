@@ -39,8 +39,8 @@ agree_own Broken = refl
 
 agree_sign : (s : Sign) (v : YesNo) → agree s v ≡ true → sign_of v ≡ s
 agree_sign Holds Kept h = refl
-agree_sign Holds Broken h = let z : ◌≡◌ {A = ℕ} 0 1 = cc in absurd (omega arith)
-agree_sign Fails Kept h = let z : ◌≡◌ {A = ℕ} 0 1 = cc in absurd (omega arith)
+agree_sign Holds Broken h = cc
+agree_sign Fails Kept h = cc
 agree_sign Fails Broken h = refl
 
 -- values that agree on the facts make the same choice
@@ -103,7 +103,7 @@ module _ (k : Case) (ok : Bound k) where
       let same : (s : Sign) → OfWays (Same t u) (w s) =
       λ s. ways_map (Earlier n m i) (Same t u)
       (λ x h. ap (λ c. verdict_of c.sign) (before (index n m x.place x.node) h.2 ∙ no_index x.place x.node h.0 h.1) ∙ verdict_back (u x.place x.node))
-      (w s) (early_at k ok.noded i i s low (omega arith)) in
+      (w s) (early_at k ok.noded i s low) in
       let within : j < m = mod_below i m k.rule.some in
       let sign : sign_if (given t (w Holds)) ≡ sign_of (u q j) = ap sign_if (given_same t u (w Holds) (same Holds) ∙ right_at k ok q j Holds within) ∙ sign_if_lem (u q j) in
       ap (claim_by k t q j) sign ∙ ap (claim_on n m q j (sign_of (u q j))) (chosen_same t u (w (sign_of (u q j))) (same (sign_of (u q j))))
@@ -197,13 +197,19 @@ module _ (k : Case) (ok : Bound k) where
         (λ heard e. (list, complete list heard (length-map-range_with_len (claim_no k) 0 (claim_count k)) is ∙ ap Ok e)),
       )
 
-  pub going_more : (i : ℕ) (old new : List Claim) (c : Claim) → i < claim_count k → i < length new → c ≡ claim_next k new (n - i / m) (i % m) → Going k i old new → Going k (i + 1) old (set new i c)
-  going_more i old new c low within is g = record {
-    done = below_more (λ b. claim_at (set new i c) b ≡ claim_no k b) i
-        (λ b h. let ne : b ≢ i = omega arith in get_or-set_other new i b c _ ne ∙ g.done b h)
-        (get_or-set_same new i c _ within ∙ is ∙ claim_next_lem new i low g.done);
-    rest = drop-set-lt (claim_count k) new i c low ∙ g.rest;
-  }
+  -- the next claim is made from those that are written
+  pub going_more : (i : ℕ) (old new : List Claim) (c : Claim) → i < claim_count k → i < length new →
+      c ≡ claim_next k (take i new) (n - length (take i new) / m) (length (take i new) % m) → Going k i old new → Going k (i + 1) old (set new i c)
+  going_more i old new c low within is g =
+      let before : (b : ℕ) → b < i → claim_at (take i new) b ≡ claim_no k b = λ b h. get_or-take i new b _ h ∙ g.done b h in
+      let long : length (take i new) ≡ i = length-take-le i new (omega arith) in
+      let next : c ≡ claim_no k i = is ∙ ap (λ b. claim_next k (take i new) (n - b / m) (b % m)) long ∙ claim_next_lem (take i new) i low before in
+      record {
+        done = below_more (λ b. claim_at (set new i c) b ≡ claim_no k b) i
+            (λ b h. let ne : b ≢ i = omega arith in get_or-set_other new i b c _ ne ∙ g.done b h)
+            (get_or-set_same new i c _ within ∙ next);
+        rest = drop-set-lt (claim_count k) new i c low ∙ g.rest;
+      }
 
   pub going_all : (i : ℕ) (old new : List Claim) → unheard k ≡ None → claim_count k ≤ i → claim_count k ≤ length new → Going k i old new → Written k old new
   going_all i old new heard up fits g =

@@ -1,5 +1,5 @@
 -- The order of the written claims, and that each rests on earlier ones. Assumes nothing.
-use Rattle.std.proofs.Common.{◌≡◌, ℕ, suc, ◌+◌, ◌-◌, ◌*◌, ◌/◌, ◌%◌, ◌<◌, ◌≤◌, Bool, true, false, cond, length, sym, refl, ap, ◌∙◌, subst, suc-mul, mul_comm, arith}
+use Rattle.std.proofs.Common.{◌≡◌, ℕ, suc, ◌+◌, ◌-◌, ◌*◌, ◌/◌, ◌%◌, ◌<◌, ◌≤◌, Bool, true, false, cond, length, sym, refl, ap, ◌∙◌, subst, ap₂, suc-mul, mul_comm, arith}
 use Rattle.std.proofs.lemmas.Nat.{div-add-mod', mul-add-lt, div-mul-add, mod-mul-add, div_below, mod_below}
 use Rattle.std.proofs.lemmas.Bool.{ltb-true}
 use Rattle.rules.specs.Rules.{node_count, nodes_of}
@@ -134,21 +134,20 @@ module _ (k : Case) (noded : length (nodes_of k.rule) ≡ node_count k.rule) whe
       rests_on E q j (λ a h. earlier_here n m q j a low within h) s (letter_at k q) (is_event k q)
       (λ e a h. earlier_next n m q j a (ltb-true q n e) (omega arith)) (node_at (nodes_of k.rule) j) (nodes_ordered k.rule noded j (omega arith))
 
-  -- the same at index i, and below any bound from i on
-  pub early_at : (i b : ℕ) (s : Sign) → i < claim_count k → i ≤ b → OfWays (Earlier n m b) (ways_at k (n - i / m) (i % m) s)
-  early_at i b s low up =
+  -- the same at index i
+  pub early_at : (i : ℕ) (s : Sign) → i < claim_count k → OfWays (Earlier n m i) (ways_at k (n - i / m) (i % m) s)
+  early_at i s low =
       let some : 0 < m = k.rule.some in
       let q = n - i / m in
       let j = i % m in
-      let back = index_back n m i some low in
-      ways_map (Earlier n m (index n m q j)) (Earlier n m b) (λ x h. (h.0, h.1, omega (arith, h.2))) (ways_at k q j s)
-      (early q j s (omega arith) (mod_below i m some))
+      subst (λ b. OfWays (Earlier n m b) (ways_at k q j s)) (index_back n m i some low) (early q j s (omega arith) (mod_below i m some))
 
-  -- the same for ways and a number of nodes that a call gives
-  pub early_by : (nodes i b : ℕ) (s : Sign) (w : Ways) → nodes ≡ m → w ≡ ways_at k (n - i / nodes) (i % nodes) s → i < claim_count k → i ≤ b → OfWays (Earlier n nodes b) w
-  early_by nodes i b s w e is low up =
-      let same : w ≡ ways_at k (n - i / m) (i % m) s = is ∙ ap (λ a. ways_at k (n - i / a) (i % a) s) e in
-      subst (λ a. OfWays (Earlier n a b) w) (sym e) (subst (OfWays (Earlier n m b)) (sym same) (early_at i b s low up))
+  -- the same for a number of nodes, a place, a node and ways that calls give
+  pub early_by : (nodes i q j : ℕ) (s : Sign) (w : Ways) → nodes ≡ m → q ≡ n - i / nodes → j ≡ i % nodes → w ≡ ways_at k q j s → i < claim_count k →
+      OfWays (Earlier n nodes i) w
+  early_by nodes i q j s w e at own is low =
+      let same : w ≡ ways_at k (n - i / m) (i % m) s = is ∙ ap₂ (λ a b. ways_at k a b s) (at ∙ ap (λ a. n - i / a) e) (own ∙ ap (λ a. i % a) e) in
+      subst (λ a. OfWays (Earlier n a i) w) (sym e) (subst (OfWays (Earlier n m i)) (sym same) (early_at i s low))
 
 pub chosen_by : (P : Fact → Type 0) (t : ℕ → ℕ → YesNo) (w : Ways) (g : Grounds) → g ≡ chosen t w → OfWays P w → OfGrounds P g
 chosen_by P t w g is h = subst (OfGrounds P) (sym is) (chosen_of P t w h)

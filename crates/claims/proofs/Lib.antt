@@ -1,5 +1,6 @@
 pub mod Right
 pub mod Accepted
+pub mod Taken
 pub mod Sound
 pub mod Early
 pub mod Complete

@@ -8,11 +8,8 @@ use Rattle.rules.specs.Tree.{Tree, tree_of, decode, node_at}
 use Rattle.rules.specs.declared.node.Unary.{Unary}
 use Rattle.rules.specs.declared.node.Binary.{Binary}
 use Rattle.rules.specs.declared.node.Node.{Node}
-use Rattle.rules.specs.declared.rule.Rule.{Rule}
-use Rattle.readings.specs.Binding.{numbers_of}
-use Rattle.readings.specs.declared.bound.BoundRule.{BoundRule}
 use Rattle.readings.specs.Meaning.{Meaning, mark_of}
-use Rattle.verdicts.specs.Case.{Case, case_of, record_of}
+use Rattle.verdicts.specs.Case.{Case, record_of}
 use Rattle.verdicts.specs.Meaning.{means, letter, unary, binary, rows}
 use Rattle.verdicts.specs.Step.{Known, unary_end, unary_row, binary_end, binary_row}
 use Rattle.verdicts.specs.Valuation.{worth_of, row_of, laid}
@@ -24,7 +21,10 @@ use Rattle.verdicts.proofs.Recur.{unary_end_lem, unary_row_lem, binary_end_lem, 
 use Rattle.verdicts.proofs.Rules.{nodes_ordered, nodes_lettered}
 use Rattle.verdicts.proofs.Traced.{rows_laid, rows_written}
 use Rattle.claims.specs.Ways.{other, fact, turned, only, all, any, alike, comes, before_ways, between_ways, ways, is_event, letter_at, ways_at, agree, is_true, given}
+pub use Rattle.claims.specs.Bound.{Bound}
 use Rattle.claims.specs.Claims.{meant, Evaluated}
+use Rattle.claims.specs.Posed.{posed}
+use Rattle.claims.specs.declared.case.Case.{Case as Held}
 use Rattle.claims.specs.declared.claim.Sign.{Sign}
 use Rattle.claims.specs.declared.claim.Sign.TheVariants.{Holds, Fails}
 use Rattle.claims.specs.declared.grounds.Fact.{Fact}
@@ -201,29 +201,8 @@ module _ (g : ℕ → Tree ℕ) (at : ℕ → List (List YesNo)) (k q j : ℕ) (
   right false here (Node.Between o a b) known own s =
       between_end values q j a s b o ∙ ap (agree s) (binary_past (at q) here o (means yes_no (g a)) (means yes_no (g b)))
 
--- what a bound rule and its trace keep: a number for each letter, and a table of the nodes
-pub record Bound (k : Case) : Type 0 where
-  pub numbered : length k.numbers ≡ letter_count k.rule
-  pub noded : length (nodes_of k.rule) ≡ node_count k.rule
-
--- a rule and its nodes, as a call gives them
-module _ (r s : Rule) (ns : List Node) (rule : s ≡ r) (same : ns ≡ nodes_of s) (long : length ns ≡ node_count s) where
-  nodes_as : ns ≡ nodes_of r
-  nodes_as = same ∙ ap nodes_of rule
-
-  pub noded_as : length (nodes_of r) ≡ node_count r
-  noded_as = sym (ap length nodes_as) ∙ long ∙ ap node_count rule
-
-  -- a node's letter is one of the rule's
-  pub letter_known : (j l : ℕ) → j < node_count r → node_at ns j ≡ Node.Letter l → l < letter_count r
-  letter_known j l low is =
-      let within : j < length (nodes_of r) = omega (arith, noded_as) in
-      subst (Known (letter_count r)) (sym (ap (λ xs. node_at xs j) nodes_as) ∙ is) (nodes_lettered r noded_as j within)
-
-pub bound_as : {R : Type 0} (means : R → Meaning) (b : BoundRule R) (cs ns : List ℕ) (r : Rule) (nodes : List Node) →
-    r ≡ b.rule → nodes ≡ nodes_of r → length nodes ≡ node_count r → ns ≡ numbers_of b → length ns ≡ letter_count b.rule → Bound (case_of means b cs)
-bound_as means b cs ns r nodes rule same long numbers each =
-    record { numbered = sym (ap length numbers) ∙ each; noded = noded_as b.rule r nodes rule same long }
+pub held : {R : Type 0} (means : R → Meaning) (c : Held R) → Bound (posed means c)
+held means c = record { numbered = sym (ap length c.numbers_same) ∙ c.numbers_long; noded = sym (ap length c.nodes_same) ∙ c.nodes_long }
 
 module _ (k : Case) (ok : Bound k) where
   abbrev row : ℕ → List YesNo

@@ -24,8 +24,8 @@ agree_own Fails = refl
 
 agree_verdict : (s : Sign) (v : YesNo) → agree s v ≡ true → v ≡ verdict_of s
 agree_verdict Holds Kept h = refl
-agree_verdict Holds Broken h = let z : ◌≡◌ {A = ℕ} 0 1 = cc in absurd (omega arith)
-agree_verdict Fails Kept h = let z : ◌≡◌ {A = ℕ} 0 1 = cc in absurd (omega arith)
+agree_verdict Holds Broken h = cc
+agree_verdict Fails Kept h = cc
 agree_verdict Fails Broken h = refl
 
 module _ (k : Case) (ok : Bound k) (cs : List Claim) where
@@ -51,7 +51,7 @@ module _ (k : Case) (ok : Bound k) (cs : List Claim) where
       and_from (is_true (meant k) x) (is_true (meant k) y) (cited i c.first x before p.0) (cited i c.second y before p.1)
 
   meeting : (i : ℕ) (c : Claim) (w : Ways) → Before i → meets cs i c w ≡ true → given (meant k) w ≡ true
-  meeting i c Never before h = let z : ◌≡◌ {A = ℕ} 0 1 = cc in absurd (omega arith)
+  meeting i c Never before h = cc
   meeting i c (By g) before h = resting i c g before h
   meeting i c (Either g f) before h =
       ⊎_elim

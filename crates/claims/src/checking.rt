@@ -1,28 +1,17 @@
 // The check of a list of claims.
-ghost use Rattle.std.specs.Prelude.{◌≡◌, ◌+◌, ◌<◌, ◌≤◌, length, ◌==◌};
+ghost use Rattle.std.specs.Prelude.{◌≡◌, ◌+◌, length, ◌==◌};
 ghost use Rattle.rules.specs.First.{answer};
 ghost use Rattle.rules.specs.Rules.{node_count};
-ghost use Rattle.readings.specs.Binding.{numbers_of};
 ghost use Rattle.claims.specs.Ways.{case_of};
-ghost use Rattle.claims.specs.Claims.{same_sign, says, cites, rests, meets, placed, supported, rooted, checked, claim_at, unsupported, Sound, Exact, Evaluated};
+ghost use Rattle.claims.specs.Claims.{says, cites, rests, meets, placed, supported, last_of, bad_end, checked, unsupported, Sound, Exact, Evaluated};
+ghost use Rattle.claims.specs.Posed.{posed};
 
-use crate::claim::{Claim, Sign};
+use crate::case::Case;
+use crate::claim::Claim;
 use crate::grounds::{Fact, Grounds, Ways};
-use crate::support::{verdict_of, ways};
 use readings::{BoundRule, Reading};
 use rules::Fault;
-use verdicts::{YesNo, check_events};
-
-pub(crate) const MOST_EVENTS: usize = 4095;
-
-pub(crate) fn same_sign(a: Sign, b: Sign) -> bool
-    ensures { result ≡ same_sign a b }
-{
-    match (a, b) {
-        (Sign::Holds, Sign::Holds) | (Sign::Fails, Sign::Fails) => true,
-        (Sign::Holds, Sign::Fails) | (Sign::Fails, Sign::Holds) => false,
-    }
-}
+use verdicts::YesNo;
 
 // Whether a number that counts from 1 is the one that is `x` from 0.
 fn counts(number: u32, x: usize) -> bool
@@ -31,126 +20,88 @@ fn counts(number: u32, x: usize) -> bool
     number > 0 && number as usize - 1 == x
 }
 
-fn claim_says(c: Claim, x: Fact) -> bool
-    ensures { result ≡ says c x }
+// Whether `number` is that of one of the earlier claims, and that claim says a fact.
+fn cites(earlier: &[Claim], number: u32, x: Fact) -> bool
+    ensures { result ≡ cites earlier.now (length earlier.now) number x }
 {
-    counts(c.place, x.place) & counts(c.node, x.node) & same_sign(c.sign, x.sign)
+    number > 0 && earlier.get(number as usize - 1).is_some_and(|c| c.says(x))
 }
 
-// Whether `number` is that of one of the first `i` claims, and that claim says a fact.
-fn claim_cites(claims: &[Claim], i: usize, number: u32, x: Fact) -> bool
-    requires { i ≤ length claims.now }
-    ensures { result ≡ cites claims.now i number x }
-{
-    number > 0 && number as usize <= i && claim_says(claims[number as usize - 1], x)
-}
+impl Claim {
+    fn says(self, x: Fact) -> bool
+        ensures { result ≡ says self x }
+    {
+        counts(self.place, x.place) & counts(self.node, x.node) & (self.sign == x.sign)
+    }
 
-fn claim_rests(claims: &[Claim], i: usize, c: Claim, grounds: Grounds) -> bool
-    requires { i ≤ length claims.now }
-    ensures { result ≡ rests claims.now i c grounds }
-{
-    match grounds {
-        Grounds::Nothing => (c.first == 0) & (c.second == 0),
-        Grounds::One(x) => claim_cites(claims, i, c.first, x) & (c.second == 0),
-        Grounds::Both(x, y) => {
-            claim_cites(claims, i, c.first, x) & claim_cites(claims, i, c.second, y)
+    fn rests(self, earlier: &[Claim], grounds: Grounds) -> bool
+        ensures { result ≡ rests earlier.now (length earlier.now) self grounds }
+    {
+        match grounds {
+            Grounds::Nothing => (self.first == 0) & (self.second == 0),
+            Grounds::One(x) => cites(earlier, self.first, x) & (self.second == 0),
+            Grounds::Both(x, y) => cites(earlier, self.first, x) & cites(earlier, self.second, y),
         }
     }
-}
 
-fn claim_meets(claims: &[Claim], i: usize, c: Claim, w: Ways) -> bool
-    requires { i ≤ length claims.now }
-    ensures { result ≡ meets claims.now i c w }
-{
-    match w {
-        Ways::Never => false,
-        Ways::By(g) => claim_rests(claims, i, c, g),
-        Ways::Either(g, h) => claim_rests(claims, i, c, g) | claim_rests(claims, i, c, h),
+    fn meets(self, earlier: &[Claim], w: Ways) -> bool
+        ensures { result ≡ meets earlier.now (length earlier.now) self w }
+    {
+        w.any(|g| self.rests(earlier, g))
     }
 }
 
-// Whether a claim is on one of `m` nodes at a place of a trace of `n` events.
-fn claim_placed(n: usize, m: usize, c: Claim) -> bool
-    requires { n ≤ 4095 }
-    ensures { result ≡ placed n m c }
-{
-    (c.place > 0) & (c.place as usize <= n + 1) & (c.node > 0) & (c.node as usize <= m)
-}
-
-// Whether the claim at index `i` is supported.
-fn claim_supported<R: Reading>(
-    bound: &BoundRule<R>,
-    trace: &[u32],
-    claims: &[Claim],
-    i: usize,
-) -> bool
-    requires trace_len_bound { length trace.now ≤ 4095 }
-    requires i_in_bounds { i < length claims.now }
-    ensures { result ≡ supported (case_of R.meaning bound.now trace.now) claims.now i (claim_at claims.now i) }
-{
-    let c = claims[i];
-    if !claim_placed(trace.len(), bound.rule().nodes().len(), c) {
-        return false;
+impl<'a, R: Reading> Case<'a, R> {
+    // Whether a claim is on one of the nodes at one of the places.
+    fn has(&self, c: Claim) -> bool
+        ensures { result ≡ placed (length self.now.trace.now) (node_count self.now.bound.now.rule) c }
+    {
+        (1..=self.trace.len() + 1).contains(&(c.place as usize))
+            & (1..=self.nodes.len()).contains(&(c.node as usize))
     }
-    let w = ways(
-        bound,
-        trace,
-        c.place as usize - 1,
-        c.node as usize - 1,
-        c.sign,
-    );
-    claim_meets(claims, i, c, w)
-}
 
-// The first claim that is not supported. Claims count from 1.
-fn check_support<R: Reading>(
-    bound: &BoundRule<R>,
-    trace: &[u32],
-    claims: &[Claim],
-) -> Result<(), Fault>
-    requires { length trace.now ≤ 4095 }
-    ensures { result ≡ answer (unsupported (case_of R.meaning bound.now trace.now) claims.now) tt }
-{
-    for i in 0..claims.len() {
-        if !claim_supported(bound, trace, claims, i) {
-            return Err(Fault::Unsupported(i + 1));
+    // Whether a claim after the earlier ones is supported.
+    fn supports(&self, earlier: &[Claim], c: Claim) -> bool
+        ensures { result ≡ supported (posed R.meaning self.now) earlier.now (length earlier.now) c }
+    {
+        if !self.has(c) {
+            return false;
+        }
+        let spot = self.spot(c.place as usize - 1, c.node as usize - 1);
+        c.meets(earlier, self.ways(spot, c.sign))
+    }
+
+    // The first claim that is not supported. Claims count from 1.
+    fn check_support(&self, claims: &[Claim]) -> Result<(), Fault>
+        ensures { result ≡ answer (unsupported (posed R.meaning self.now) claims.now) tt }
+    {
+        for (i, c) in claims.iter().enumerate() {
+            if !self.supports(&claims[..i], *c) {
+                return Err(Fault::Unsupported(i + 1));
+            }
+        }
+        Ok(())
+    }
+
+    // The last claim, which has to be on the last node, the whole rule, at the first place.
+    fn root(&self, claims: &[Claim]) -> Result<Claim, Fault>
+        ensures { result ≡ answer (bad_end (node_count self.now.bound.now.rule) claims.now) (last_of claims.now) }
+    {
+        match claims.last() {
+            Some(&last) if (last.place == 1) & (last.node as usize == self.nodes.len()) => Ok(last),
+            _ => Err(Fault::BadEnd(claims.len())),
         }
     }
-    Ok(())
-}
 
-// Whether the last claim is on the last of `m` nodes, the whole rule, at the first place.
-fn ends_at_root(m: usize, claims: &[Claim]) -> bool
-    ensures { result ≡ rooted m claims.now }
-{
-    if claims.len() == 0 {
-        return false;
+    // The verdict that a list of claims shows.
+    fn judge(&self, claims: &[Claim]) -> Result<YesNo, Fault>
+        ensures { result ≡ checked (posed R.meaning self.now) claims.now }
+    {
+        self.check_events()?;
+        let root = self.root(claims)?;
+        self.check_support(claims)?;
+        Ok(root.sign.into())
     }
-    let last = claims[claims.len() - 1];
-    (last.place == 1) & (last.node as usize == m)
-}
-
-// The check, with the numbers of the letters and the number of nodes at hand.
-fn judge<R: Reading>(
-    bound: &BoundRule<R>,
-    numbers: &[u8],
-    m: usize,
-    trace: &[u32],
-    claims: &[Claim],
-) -> Result<YesNo, Fault>
-    requires numbers_value { numbers.now ≡ numbers_of bound.now }
-    requires m_value { m ≡ node_count bound.now.rule }
-    ensures { result ≡ checked (case_of R.meaning bound.now trace.now) claims.now }
-{
-    if trace.len() > MOST_EVENTS {
-        return Err(Fault::ManyEvents);
-    }
-    check_events::<YesNo, R>(bound.reading(), numbers, trace)?;
-    if !ends_at_root(m, claims) {
-        return Err(Fault::BadEnd(claims.len()));
-    }
-    check_support(bound, trace, claims)?;
-    Ok(verdict_of(claims[claims.len() - 1].sign))
 }
 
 // The verdict that a list of claims shows for a bound rule on a trace. Every claim of a list that is accepted is true, and
@@ -165,7 +116,5 @@ pub fn check<R: Reading>(
     ensures exact { Exact (case_of R.meaning bound.now trace.now) }
     ensures evaluated { Evaluated (case_of R.meaning bound.now trace.now) }
 {
-    let numbers = bound.numbers();
-    let m = bound.rule().nodes().len();
-    judge(bound, numbers, m, trace, claims)
+    Case::new(bound, trace)?.judge(claims)
 }

@@ -1,43 +1,26 @@
 // The rules of support, as code. Places and nodes count from 0 here: place n is the empty rest.
-ghost use Rattle.std.specs.Prelude.{◌≡◌, ◌+◌, ◌<◌, ◌≤◌};
-ghost use Rattle.rules.specs.Rules.{node_count, letter_count};
-ghost use Rattle.verdicts.specs.Meaning.{constant};
-ghost use Rattle.verdicts.specs.YesNo.{yes_no};
-ghost use Rattle.claims.specs.Ways.{case_of, other, fact, turned, only, all, any, alike, comes, before_ways, between_ways, letter_at, ways_at, verdict_of};
+ghost use Rattle.std.specs.Prelude.{◌≡◌, ◌+◌, ◌<◌};
+ghost use Rattle.rules.specs.Rules.{letter_count};
+ghost use Rattle.claims.specs.Ways.{fact, only, all, any, alike, comes, before_ways, between_ways, letter_at, ways_at};
+ghost use Rattle.claims.specs.Posed.{posed, Lies};
 ghost use Rattle.claims.specs.declared.claim.Sign.TheVariants.{Holds};
 
+use crate::case::Case;
 use crate::claim::Sign;
 use crate::grounds::{Fact, Grounds, Ways};
-use readings::{BoundRule, Mark, Reading};
+use crate::spot::Spot;
+use readings::{Mark, Reading};
 use rules::{Binary, Node, Unary};
 use verdicts::YesNo;
-
-fn turn_sign(sign: Sign) -> Sign
-    ensures { result ≡ other sign }
-{
-    match sign {
-        Sign::Holds => Sign::Fails,
-        Sign::Fails => Sign::Holds,
-    }
-}
-
-fn turn(x: Fact) -> Fact
-    ensures { result ≡ turned x }
-{
-    Fact {
-        place: x.place,
-        node: x.node,
-        sign: turn_sign(x.sign),
-    }
-}
 
 // A value that is known.
 fn known(value: YesNo, sign: Sign) -> Ways
     ensures { result ≡ only value sign }
 {
-    match (value, sign) {
-        (YesNo::Kept, Sign::Holds) | (YesNo::Broken, Sign::Fails) => Ways::By(Grounds::Nothing),
-        (YesNo::Kept, Sign::Fails) | (YesNo::Broken, Sign::Holds) => Ways::Never,
+    if value == sign.into() {
+        Ways::By(Grounds::Nothing)
+    } else {
+        Ways::Never
     }
 }
 
@@ -47,18 +30,15 @@ fn both(x: Fact, y: Fact, sign: Sign) -> Ways
 {
     match sign {
         Sign::Holds => Ways::By(Grounds::Both(x, y)),
-        Sign::Fails => Ways::Either(Grounds::One(turn(x)), Grounds::One(turn(y))),
+        Sign::Fails => Ways::Either(Grounds::One(!x), Grounds::One(!y)),
     }
 }
 
-// One of two facts.
+// One of two facts: it fails as both of their opposites hold.
 fn either(x: Fact, y: Fact, sign: Sign) -> Ways
     ensures { result ≡ any x y sign }
 {
-    match sign {
-        Sign::Holds => Ways::Either(Grounds::One(x), Grounds::One(y)),
-        Sign::Fails => Ways::By(Grounds::Both(turn(x), turn(y))),
-    }
+    both(!x, !y, !sign)
 }
 
 // Both or neither of two facts.
@@ -66,8 +46,8 @@ fn same(x: Fact, y: Fact, sign: Sign) -> Ways
     ensures { result ≡ alike x y sign }
 {
     match sign {
-        Sign::Holds => Ways::Either(Grounds::Both(x, y), Grounds::Both(turn(x), turn(y))),
-        Sign::Fails => Ways::Either(Grounds::Both(x, turn(y)), Grounds::Both(turn(x), y)),
+        Sign::Holds => Ways::Either(Grounds::Both(x, y), Grounds::Both(!x, !y)),
+        Sign::Fails => Ways::Either(Grounds::Both(x, !y), Grounds::Both(!x, y)),
     }
 }
 
@@ -77,124 +57,93 @@ fn until(x: Fact, y: Fact, z: Fact, sign: Sign) -> Ways
 {
     match sign {
         Sign::Holds => Ways::Either(Grounds::One(y), Grounds::Both(x, z)),
-        Sign::Fails => Ways::Either(
-            Grounds::Both(turn(y), turn(x)),
-            Grounds::Both(turn(y), turn(z)),
-        ),
+        Sign::Fails => Ways::Either(Grounds::Both(!y, !x), Grounds::Both(!y, !z)),
     }
 }
 
-fn operand(place: usize, node: u8, sign: Sign) -> Fact
-    ensures { result ≡ fact place node sign }
-{
-    Fact {
-        place,
-        node: node as usize,
-        sign,
+impl Spot {
+    // That node `a` holds at the same place.
+    fn operand(self, a: u8) -> Fact
+        ensures { result ≡ fact self.place a Holds }
+    {
+        Fact {
+            place: self.place,
+            node: a as usize,
+            sign: Sign::Holds,
+        }
+    }
+
+    // That the node holds at the next place.
+    fn later(self) -> Fact
+        ensures { result ≡ fact (self.place + 1) self.own Holds }
+    {
+        Fact {
+            place: self.place + 1,
+            node: self.own,
+            sign: Sign::Holds,
+        }
+    }
+
+    // An operator before node `a`.
+    fn before(self, operator: Unary, a: u8, sign: Sign) -> Ways
+        ensures { result ≡ before_ways self.event self.place self.own operator a sign }
+    {
+        let x = self.operand(a);
+        match operator {
+            Unary::Not => Ways::By(Grounds::One(Fact { sign: !sign, ..x })),
+            Unary::Always if self.event => both(x, self.later(), sign),
+            Unary::Always => known(YesNo::Kept, sign),
+            Unary::Eventually if self.event => either(x, self.later(), sign),
+            Unary::Next if self.event => Ways::By(Grounds::One(Fact {
+                place: self.place + 1,
+                sign,
+                ..x
+            })),
+            Unary::Eventually | Unary::Next => known(YesNo::Broken, sign),
+        }
+    }
+
+    // An operator between nodes `a` and `b`.
+    fn between(self, operator: Binary, a: u8, b: u8, sign: Sign) -> Ways
+        ensures { result ≡ between_ways self.event self.place self.own operator a b sign }
+    {
+        let x = self.operand(a);
+        let y = self.operand(b);
+        match operator {
+            Binary::Until if self.event => until(x, y, self.later(), sign),
+            Binary::Until => known(YesNo::Broken, sign),
+            Binary::And => both(x, y, sign),
+            Binary::Xor => same(x, !y, sign),
+            Binary::Or => either(x, y, sign),
+            Binary::Implies => either(!x, y, sign),
+            Binary::Iff => same(x, y, sign),
+        }
     }
 }
 
-// That node `own` holds at the next place.
-fn itself(place: usize, own: usize) -> Fact
-    requires { place ≤ 4095 }
-    ensures { result ≡ fact (place + 1) own Holds }
-{
-    Fact {
-        place: place + 1,
-        node: own,
-        sign: Sign::Holds,
+impl<'a, R: Reading> Case<'a, R> {
+    // Letter `l` at a place: off at the empty rest.
+    fn letter(&self, place: usize, l: u8) -> YesNo
+        requires { l < letter_count self.now.bound.now.rule }
+        ensures { result ≡ letter_at (posed R.meaning self.now) place l }
+    {
+        let Some(&code) = self.trace.get(place) else {
+            return YesNo::Broken;
+        };
+        let number = self.numbers[l as usize];
+        YesNo::from(self.bound.reading().mark(code, number) == Mark::On)
     }
-}
 
-// An operator before node `a`.
-fn before(event: bool, place: usize, own: usize, operator: Unary, a: u8, sign: Sign) -> Ways
-    requires { place ≤ 4095 }
-    ensures { result ≡ before_ways event place own operator a sign }
-{
-    let x = operand(place, a, Sign::Holds);
-    match operator {
-        Unary::Not => Ways::By(Grounds::One(operand(place, a, turn_sign(sign)))),
-        Unary::Always if event => both(x, itself(place, own), sign),
-        Unary::Always => known(YesNo::Kept, sign),
-        Unary::Eventually if event => either(x, itself(place, own), sign),
-        Unary::Next if event => Ways::By(Grounds::One(operand(place + 1, a, sign))),
-        Unary::Eventually | Unary::Next => known(YesNo::Broken, sign),
-    }
-}
-
-// An operator between nodes `a` and `b`.
-fn between(
-    event: bool,
-    place: usize,
-    own: usize,
-    operator: Binary,
-    a: u8,
-    b: u8,
-    sign: Sign,
-) -> Ways
-    requires { place ≤ 4095 }
-    ensures { result ≡ between_ways event place own operator a b sign }
-{
-    let x = operand(place, a, Sign::Holds);
-    let y = operand(place, b, Sign::Holds);
-    match operator {
-        Binary::Until if event => until(x, y, itself(place, own), sign),
-        Binary::Until => known(YesNo::Broken, sign),
-        Binary::And => both(x, y, sign),
-        Binary::Xor => same(x, turn(y), sign),
-        Binary::Or => either(x, y, sign),
-        Binary::Implies => either(turn(x), y, sign),
-        Binary::Iff => same(x, y, sign),
-    }
-}
-
-fn truth(value: bool) -> YesNo
-    ensures { result ≡ constant yes_no value }
-{
-    if value { YesNo::Kept } else { YesNo::Broken }
-}
-
-// Letter `l` at a place: off at the empty rest.
-fn letter<R: Reading>(bound: &BoundRule<R>, trace: &[u32], place: usize, l: u8) -> YesNo
-    requires { l < letter_count bound.now.rule }
-    ensures { result ≡ letter_at (case_of R.meaning bound.now trace.now) place l }
-{
-    if place >= trace.len() {
-        return YesNo::Broken;
-    }
-    let number = bound.numbers()[l as usize];
-    match bound.reading().mark(trace[place], number) {
-        Mark::On => YesNo::Kept,
-        Mark::Off | Mark::Doubt => YesNo::Broken,
-    }
-}
-
-// What node `own` at a place can rest on to hold, or to fail.
-pub(crate) fn ways<R: Reading>(
-    bound: &BoundRule<R>,
-    trace: &[u32],
-    place: usize,
-    own: usize,
-    sign: Sign,
-) -> Ways
-    requires place_bound { place ≤ 4095 }
-    requires own_bound { own < node_count bound.now.rule }
-    ensures { result ≡ ways_at (case_of R.meaning bound.now trace.now) place own sign }
-{
-    let event = place < trace.len();
-    match bound.rule().nodes()[own] {
-        Node::Letter(l) => known(letter(bound, trace, place, l), sign),
-        Node::Truth(value) => known(truth(value), sign),
-        Node::Before(operator, a) => before(event, place, own, operator, a, sign),
-        Node::Between(operator, a, b) => between(event, place, own, operator, a, b, sign),
-    }
-}
-
-pub(crate) fn verdict_of(sign: Sign) -> YesNo
-    ensures { result ≡ verdict_of sign }
-{
-    match sign {
-        Sign::Holds => YesNo::Kept,
-        Sign::Fails => YesNo::Broken,
+    // What a node at a place can rest on to hold, or to fail.
+    pub(crate) fn ways(&self, spot: Spot, sign: Sign) -> Ways
+        requires { Lies (posed R.meaning self.now) spot }
+        ensures { result ≡ ways_at (posed R.meaning self.now) spot.place spot.own sign }
+    {
+        match self.nodes[spot.own] {
+            Node::Letter(l) => known(self.letter(spot.place, l), sign),
+            Node::Truth(value) => known(value.into(), sign),
+            Node::Before(operator, a) => spot.before(operator, a, sign),
+            Node::Between(operator, a, b) => spot.between(operator, a, b, sign),
+        }
     }
 }

@@ -5,14 +5,14 @@
 mod changes;
 
 use anyhow::anyhow;
-use changes::{CHANGES, changed};
-use claims::{Claim, Sign, check, write};
-use readings::{BoundRule, Words};
+use changes::changes;
+use claims::{Claim, check, write};
+use readings::{BoundRule, Named, Words};
 use rules::Rule;
 use verdicts::YesNo;
 
 // How many changed lists were refused, accepted with the same verdict, and accepted with another.
-#[derive(Clone, Copy)]
+#[derive(Clone, Copy, Default)]
 struct Tally {
     refused: u32,
     same: u32,
@@ -21,81 +21,69 @@ struct Tally {
 
 impl Tally {
     fn note(&mut self, answer: Option<YesNo>, verdict: YesNo) {
-        match answer {
-            None => self.refused = self.refused.saturating_add(1),
-            Some(v) => {
-                if v == verdict {
-                    self.same = self.same.saturating_add(1);
-                } else {
-                    self.other = self.other.saturating_add(1);
-                }
-            }
-        }
+        let count = match answer {
+            None => &mut self.refused,
+            Some(v) if v == verdict => &mut self.same,
+            Some(_) => &mut self.other,
+        };
+        *count = count.saturating_add(1);
     }
 }
 
-fn accepted(bound: &BoundRule<Words>, trace: &[u32], claims: &[Claim]) -> Option<YesNo> {
-    match check(bound, trace, claims) {
-        Ok(v) => Some(v),
-        Err(_) => None,
-    }
-}
-
-// All changes of the claim with this index.
-fn try_claim(
-    bound: &BoundRule<Words>,
-    trace: &[u32],
-    claims: &mut [Claim],
-    index: usize,
+// A rule on a trace, and its verdict there.
+#[derive(Clone, Copy)]
+struct Subject<'a> {
+    bound: &'a BoundRule<Words>,
+    trace: &'a [u32],
     verdict: YesNo,
-    tally: &mut Tally,
-) {
-    if index >= claims.len() {
-        return;
+}
+
+impl<'a> Subject<'a> {
+    // All changes of the claim with this index.
+    fn try_claim(&self, claims: &mut [Claim], index: usize, tally: &mut Tally) {
+        let Some(&claim) = claims.get(index) else {
+            return;
+        };
+        for changed in changes(claim) {
+            claims[index] = changed;
+            tally.note(check(self.bound, self.trace, claims).ok(), self.verdict);
+        }
+        claims[index] = claim;
     }
-    let claim = claims[index];
-    for change in CHANGES {
-        claims[index] = changed(claim, change);
-        tally.note(accepted(bound, trace, claims), verdict);
+
+    // All changes of all claims.
+    fn try_all(&self, claims: &mut [Claim]) -> Tally {
+        let mut tally = Tally::default();
+        // by index: the check reads the whole list, which `iter_mut` would hold
+        for index in 0..claims.len() {
+            self.try_claim(claims, index, &mut tally);
+        }
+        tally
     }
-    claims[index] = claim;
 }
 
 fn try_rule(rt: &HostRuntime, text: &str, trace: &[u32]) -> anyhow::Result<()> {
     let names: [&[u8]; 3] = [b"a", b"b", b"c"];
     let mut rule = Rule::new();
-    if rule.read(text.as_bytes()).is_err() {
-        return Err(anyhow!("not a rule"));
-    }
+    rule.read(text.as_bytes())
+        .map_err(|_| anyhow!("not a rule"))?;
     let bound = BoundRule::new(rule, Words::new(&names));
-    let blank = Claim {
-        place: 0,
-        node: 0,
-        sign: Sign::Fails,
-        first: 0,
-        second: 0,
-    };
-    let mut claims = vec![in rt.alloc(); blank; 512]?;
-    let Ok(total) = write(&bound, trace, claims.as_mut_slice()) else {
-        return Err(anyhow!("not written"));
-    };
+    let mut claims = vec![in rt.alloc(); Claim::BLANK; 512]?;
+    let total = write(&bound, trace, claims.as_mut_slice()).map_err(|_| anyhow!("not written"))?;
     claims.truncate(total);
-    let Some(verdict) = accepted(&bound, trace, claims.as_slice()) else {
-        return Err(anyhow!("its own claims are refused"));
+    let verdict = check(&bound, trace, claims.as_slice()).map_err(|_| anyhow!(
+        "its own claims are refused"
+    ))?;
+    let subject = Subject {
+        bound: &bound,
+        trace,
+        verdict,
     };
-    let mut tally = Tally {
-        refused: 0,
-        same: 0,
-        other: 0,
-    };
-    for i in 0..total {
-        try_claim(&bound, trace, claims.as_mut_slice(), i, verdict, &mut tally);
-    }
     let Tally {
         refused,
         same,
         other,
-    } = tally;
+    } = subject.try_all(claims.as_mut_slice());
     println!(rt;
         "{text}: {refused} refused, {same} accepted as before, {other} accepted otherwise"
     )?;

@@ -1,0 +1,12 @@
+// A node at a place of a trace.
+ghost use Rattle.std.specs.Prelude.{◌<◌, ◌≤◌};
+
+// Node `own` at a place, and whether the place is an event. Both count from 0: place n is the empty rest.
+#[derive(Clone, Copy)]
+pub struct Spot {
+    pub(crate) place: usize,
+    pub(crate) own: usize,
+    pub(crate) event: bool,
+    ghost low: { place ≤ 4095 },
+    ghost within: { own < 64 },
+}
