@@ -1,0 +1,87 @@
+-- What the methods give, from what the words hold.
+use Rattle.std.proofs.Common.{◌≡◌, ℕ, zero, suc, ◌-◌, ◌*◌, ◌%◌, ◌^◌, ◌<◌, ◌≤◌, Bool, true, false, ◌&&◌, eqb, ◌⊎◌, Decides, sym, refl, ap, ◌∙◌, ap₂, inl, inr, arith}
+use Rattle.polynomials.specs.declared.bits.Bits256.{Bits256}
+use Rattle.polynomials.specs.declared.residual.Residual.{Residual}
+use Rattle.polynomials.specs.declared.vectors.VectorSet.{VectorSet}
+use Rattle.polynomials.specs.Held.{holds, terms, vectors, no_bits}
+use Rattle.polynomials.specs.Sets.{◌⊕◌, in_set}
+use Rattle.polynomials.specs.Polynomial.{Polynomial, one, variable, sum, product, value}
+use Rattle.polynomials.proofs.Sums.{eqb_comm}
+use Rattle.polynomials.proofs.FourWords.{Fit, equal_bits, none_held}
+use Rattle.polynomials.proofs.Values.{in_cong}
+use Rattle.polynomials.proofs.Valued.{value_sum, value_product, value_value, value_variable, variable_is, variable_none, unique}
+
+-- ---- one, and a variable
+
+pub one_is : (s : ℕ) → eqb 0 s ≡ one s
+unfolding one
+one_is s = eqb_comm 0 s
+
+-- what has the terms of a variable has its values
+pub values_of_variable : (x : Bits256) (i : ℕ) → ((s : ℕ) → s < 256 → holds x s ≡ variable i s)
+    → (v : ℕ) → v < 256 → value (holds x) v ≡ in_set i v
+values_of_variable x i exact v l = in_cong 8 (holds x) (variable i) v exact ∙ value_variable i v l
+
+-- ---- sum and product
+
+pub values_of_sum : (x y z : Bits256) → ((s : ℕ) → holds z s ≡ (holds x s ⊕ holds y s))
+    → (v : ℕ) → value (holds z) v ≡ (value (holds x) v ⊕ value (holds y) v)
+unfolding sum
+values_of_sum x y z each v = in_cong 8 (holds z) (sum (holds x) (holds y)) v (λ s l. each s) ∙ value_sum (holds x) (holds y) v
+
+-- a polynomial is known by its values
+pub terms_of_product : (x y z : Bits256) → ((v : ℕ) → v < 256 → value (holds z) v ≡ (value (holds x) v && value (holds y) v))
+    → (s : ℕ) → s < 256 → holds z s ≡ product (holds x) (holds y) s
+terms_of_product x y z each =
+    unique (holds z) (product (holds x) (holds y)) (λ v l. each v l ∙ sym (value_product (holds x) (holds y) v))
+
+pub values_of_product : (x y z : Bits256) → ((v : ℕ) → v < 256 → value (holds z) v ≡ (value (holds x) v && value (holds y) v))
+    → (v : ℕ) → value (holds z) v ≡ (value (holds x) v && value (holds y) v)
+values_of_product x y z each v =
+    in_cong 8 (holds z) (product (holds x) (holds y)) v (terms_of_product x y z each) ∙ value_product (holds x) (holds y) v
+
+-- ---- from values to products
+
+-- the transform y of x has the values of x
+pub values_back : (x y : Bits256) → ((v : ℕ) → v < 256 → holds y v ≡ value (holds x) v)
+    → (v : ℕ) → v < 256 → value (holds y) v ≡ holds x v
+values_back x y made v l = in_cong 8 (holds y) (value (holds x)) v made ∙ value_value (holds x) v l
+
+pub only_one : (x y : Bits256) → ((v : ℕ) → v < 256 → holds y v ≡ value (holds x) v)
+    → (P : Polynomial) → ((v : ℕ) → v < 256 → value P v ≡ holds x v) → (s : ℕ) → s < 256 → holds y s ≡ P s
+only_one x y made P same s l = made s l ∙ in_cong 8 (holds x) (value P) s (λ v k. sym (same v k)) ∙ value_value P s l
+
+-- ---- equal bits
+
+pub same_values : (x y : Residual) → Fit x.bits → Fit y.bits → (r : Bool) → Decides r (x ≡ y)
+    → Decides r ((v : ℕ) → v < 256 → value (terms x) v ≡ value (terms y) v)
+same_values x y f g r (to, from) = (
+  (λ t v l. ap (λ (z : Residual). value (terms z) v) (to t)),
+  (λ h. from (equal_terms x y f g (unique (terms x) (terms y) h))),
+)
+  where
+    equal_terms : (x y : Residual) → Fit x.bits → Fit y.bits → ((s : ℕ) → s < 256 → terms x s ≡ terms y s) → x ≡ y
+    equal_terms x y f g same = let e = equal_bits x.bits y.bits f g same in λ i. record { bits = e i }
+
+-- z is what x and y share
+module _ (x y z : VectorSet) (both : (v : ℕ) → vectors z v ≡ (vectors x v && vectors y v)) (f : Fit x.bits) (g : Fit z.bits) (r : Bool) where
+  pub within_is : Decides r (z ≡ x) → Decides r ((v : ℕ) → vectors x v ≡ true → vectors y v ≡ true)
+  within_is (to, from) = (
+    (λ t v i. ap (λ (b : Bool). b && vectors y v) (sym i) ∙ sym (both v) ∙ ap (λ (w : VectorSet). vectors w v) (to t) ∙ i),
+    (λ h. from (let e = equal_bits z.bits x.bits g f (λ s l. both s ∙ keeps (vectors x s) (vectors y s) (h s)) in λ i. record { bits = e i })),
+  )
+    where
+      keeps : (a b : Bool) → (a ≡ true → b ≡ true) → (a && b) ≡ a
+      keeps true b h = h refl
+      keeps false b h = refl
+
+  pub disjoint_is : (n : VectorSet) → ((v : ℕ) → vectors n v ≡ false) → Fit n.bits → Decides r (z ≡ n)
+      → Decides r ((v : ℕ) → vectors x v ≡ true → vectors y v ≡ false)
+  disjoint_is n none k (to, from) = (
+    (λ t v i. ap (λ (b : Bool). b && vectors y v) (sym i) ∙ sym (both v) ∙ ap (λ (w : VectorSet). vectors w v) (to t) ∙ none v),
+    (λ h. from (let e = equal_bits z.bits n.bits g k (λ s l. both s ∙ drops (vectors x s) (vectors y s) (h s) ∙ sym (none s)) in λ i. record { bits = e i })),
+  )
+    where
+      drops : (a b : Bool) → (a ≡ true → b ≡ false) → (a && b) ≡ false
+      drops true b h = h refl
+      drops false b h = refl
