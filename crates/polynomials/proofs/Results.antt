@@ -5,11 +5,11 @@ use Rattle.polynomials.specs.declared.residual.Residual.{Residual}
 use Rattle.polynomials.specs.declared.vectors.VectorSet.{VectorSet}
 use Rattle.polynomials.specs.Held.{holds, terms, vectors, no_bits}
 use Rattle.polynomials.specs.Sets.{◌⊕◌, in_set}
-use Rattle.polynomials.specs.Polynomial.{Polynomial, one, variable, sum, product, value}
+use Rattle.polynomials.specs.Polynomial.{Polynomial, one, variable, sum, product, substitute, value, step}
 use Rattle.polynomials.proofs.Sums.{eqb_comm}
 use Rattle.polynomials.proofs.FourWords.{Fit, equal_bits, none_held}
 use Rattle.polynomials.proofs.Values.{in_cong}
-use Rattle.polynomials.proofs.Valued.{value_sum, value_product, value_value, value_variable, variable_is, variable_none, unique}
+use Rattle.polynomials.proofs.Valued.{value_sum, value_product, value_substitute, value_value, value_variable, variable_is, variable_none, unique}
 
 -- ---- one, and a variable
 
@@ -51,24 +51,33 @@ pub only_one : (x y : Bits256) → ((v : ℕ) → v < 256 → holds y v ≡ valu
     → (P : Polynomial) → ((v : ℕ) → v < 256 → value P v ≡ holds x v) → (s : ℕ) → s < 256 → holds y s ≡ P s
 only_one x y made P same s l = made s l ∙ in_cong 8 (holds x) (value P) s (λ v k. sym (same v k)) ∙ value_value P s l
 
+-- ---- substitution
+
+pub values_of_substitute : (x z : Bits256) (P : ℕ → Polynomial) → ((s : ℕ) → s < 256 → holds z s ≡ substitute (holds x) P s)
+    → (v : ℕ) → value (holds z) v ≡ value (holds x) (step P v)
+values_of_substitute x z P exact v = in_cong 8 (holds z) (substitute (holds x) P) v exact ∙ value_substitute (holds x) P v
+
 -- ---- equal bits
+
+pub equal_residuals : (x y : Residual) → Fit x.bits → Fit y.bits → ((s : ℕ) → s < 256 → terms x s ≡ terms y s) → x ≡ y
+equal_residuals x y f g same = let e = equal_bits x.bits y.bits f g same in λ i. record { bits = e i }
+
+pub equal_sets : (x y : VectorSet) → Fit x.bits → Fit y.bits → ((v : ℕ) → v < 256 → vectors x v ≡ vectors y v) → x ≡ y
+equal_sets x y f g same = let e = equal_bits x.bits y.bits f g same in λ i. record { bits = e i }
 
 pub same_values : (x y : Residual) → Fit x.bits → Fit y.bits → (r : Bool) → Decides r (x ≡ y)
     → Decides r ((v : ℕ) → v < 256 → value (terms x) v ≡ value (terms y) v)
 same_values x y f g r (to, from) = (
   (λ t v l. ap (λ (z : Residual). value (terms z) v) (to t)),
-  (λ h. from (equal_terms x y f g (unique (terms x) (terms y) h))),
+  (λ h. from (equal_residuals x y f g (unique (terms x) (terms y) h))),
 )
-  where
-    equal_terms : (x y : Residual) → Fit x.bits → Fit y.bits → ((s : ℕ) → s < 256 → terms x s ≡ terms y s) → x ≡ y
-    equal_terms x y f g same = let e = equal_bits x.bits y.bits f g same in λ i. record { bits = e i }
 
 -- z is what x and y share
 module _ (x y z : VectorSet) (both : (v : ℕ) → vectors z v ≡ (vectors x v && vectors y v)) (f : Fit x.bits) (g : Fit z.bits) (r : Bool) where
   pub within_is : Decides r (z ≡ x) → Decides r ((v : ℕ) → vectors x v ≡ true → vectors y v ≡ true)
   within_is (to, from) = (
     (λ t v i. ap (λ (b : Bool). b && vectors y v) (sym i) ∙ sym (both v) ∙ ap (λ (w : VectorSet). vectors w v) (to t) ∙ i),
-    (λ h. from (let e = equal_bits z.bits x.bits g f (λ s l. both s ∙ keeps (vectors x s) (vectors y s) (h s)) in λ i. record { bits = e i })),
+    (λ h. from (equal_sets z x g f (λ s l. both s ∙ keeps (vectors x s) (vectors y s) (h s)))),
   )
     where
       keeps : (a b : Bool) → (a ≡ true → b ≡ true) → (a && b) ≡ a
@@ -79,7 +88,7 @@ module _ (x y z : VectorSet) (both : (v : ℕ) → vectors z v ≡ (vectors x v 
       → Decides r ((v : ℕ) → vectors x v ≡ true → vectors y v ≡ false)
   disjoint_is n none k (to, from) = (
     (λ t v i. ap (λ (b : Bool). b && vectors y v) (sym i) ∙ sym (both v) ∙ ap (λ (w : VectorSet). vectors w v) (to t) ∙ none v),
-    (λ h. from (let e = equal_bits z.bits n.bits g k (λ s l. both s ∙ drops (vectors x s) (vectors y s) (h s) ∙ sym (none s)) in λ i. record { bits = e i })),
+    (λ h. from (equal_sets z n g k (λ s l. both s ∙ drops (vectors x s) (vectors y s) (h s) ∙ sym (none s)))),
   )
     where
       drops : (a b : Bool) → (a ≡ true → b ≡ false) → (a && b) ≡ false

@@ -178,20 +178,3 @@ stage_next {n} {m} {x} {y} {F} mk e before = record {
 -- after all six, the word has the values
 pub stages_end : {x : ℕ} {F : Polynomial} → Staged 6 F x → (v : ℕ) → v < 64 → bit_at v x ≡ value_in 6 F v
 stages_end {x} {F} st v l = st.at v l ∙ stages_are 6 v F l
-
--- so six stages, as the code makes them, give the values
-pub six_stages : (x a b c d e f : ℕ)
-    → a ≡ bit_xor x ((bit_and x 0x5555_5555_5555_5555 * 2 ^ 1) % 2 ^ 64)
-    → b ≡ bit_xor a ((bit_and a 0x3333_3333_3333_3333 * 2 ^ 2) % 2 ^ 64)
-    → c ≡ bit_xor b ((bit_and b 0x0f0f_0f0f_0f0f_0f0f * 2 ^ 4) % 2 ^ 64)
-    → d ≡ bit_xor c ((bit_and c 0x00ff_00ff_00ff_00ff * 2 ^ 8) % 2 ^ 64)
-    → e ≡ bit_xor d ((bit_and d 0x0000_ffff_0000_ffff * 2 ^ 16) % 2 ^ 64)
-    → f ≡ bit_xor e ((bit_and e 0x0000_0000_ffff_ffff * 2 ^ 32) % 2 ^ 64)
-    → (v : ℕ) → v < 64 → bit_at v f ≡ value_in 6 (λ s. bit_at s x) v
-six_stages x a b c d e f h1 h2 h3 h4 h5 h6 =
-    let after1 = stage_next masks_are.0 h1 (stage_none x) in
-    let after2 = stage_next masks_are.1 h2 after1 in
-    let after3 = stage_next masks_are.2 h3 after2 in
-    let after4 = stage_next masks_are.3 h4 after3 in
-    let after5 = stage_next masks_are.4 h5 after4 in
-    stages_end (stage_next masks_are.5 h6 after5)

@@ -5,6 +5,7 @@ ghost use Rattle.polynomials.specs.Sets.{◌⊕◌};
 
 use std::ops::{BitAnd, BitOr, BitXor, Not};
 
+// Four fields and no array, so that each word stays in a register.
 #[derive(Clone, Copy, PartialEq, Eq)]
 pub struct Bits256 {
     pub a: u64,
@@ -28,7 +29,7 @@ impl Bits256 {
         d: u64::MAX,
     };
 
-    // Word q. The words are four fields and no array, so that each stays in a register.
+    // Word q.
     fn word(self, q: u8) -> u64
         requires { q < 4 }
         ensures { result ≡ word_of self q }
@@ -83,7 +84,7 @@ impl Bits256 {
     }
 
     // What f makes of each word and that of the other.
-    fn zip<F: Fn(u64, u64) -> u64>(self, other: Bits256, f: F) -> Bits256
+    fn zip_with<F: Fn(u64, u64) -> u64>(self, other: Bits256, f: F) -> Bits256
         requires { F.IsAlwaysCallable f }
         ensures { EachWord (F.post f) self other result }
     {
@@ -103,7 +104,7 @@ impl BitAnd for Bits256 {
 
     #[tactic(auto, using(crate::proofs::FourWords::words_and))]
     fn bitand(self, other: Bits256) -> Bits256 {
-        self.zip(other, |x, y| x & y)
+        self.zip_with(other, |x, y| x & y)
     }
 }
 
@@ -114,7 +115,7 @@ impl BitOr for Bits256 {
 
     #[tactic(auto, using(crate::proofs::FourWords::words_or))]
     fn bitor(self, other: Bits256) -> Bits256 {
-        self.zip(other, |x, y| x | y)
+        self.zip_with(other, |x, y| x | y)
     }
 }
 
@@ -125,7 +126,7 @@ impl BitXor for Bits256 {
 
     #[tactic(auto, using(crate::proofs::FourWords::words_xor))]
     fn bitxor(self, other: Bits256) -> Bits256 {
-        self.zip(other, |x, y| x ^ y)
+        self.zip_with(other, |x, y| x ^ y)
     }
 }
 

@@ -8,6 +8,7 @@ use super::residual::Residual;
 use super::vectors::VectorSet;
 
 // The vector whose bit i says whether v is in the i-th table.
+#[tactic(auto, using(crate::proofs::Digits::set_none, crate::proofs::Digits::set_more, crate::proofs::Digits::set_skip))]
 pub fn step(tables: &[VectorSet; 8], v: u8) -> u8
     ensures { result ≡ set_below 8 (λ i. vectors_of tables.now i v) }
 {
@@ -20,6 +21,7 @@ pub fn step(tables: &[VectorSet; 8], v: u8) -> u8
     w
 }
 
+#[tactic(auto, using(crate::proofs::Halves::power_is))]
 fn power(n: usize) -> u32
     requires { n < 6 }
     ensures { (result ≡ 2 ^ n) × (result ≤ 32) }
@@ -27,6 +29,7 @@ fn power(n: usize) -> u32
     1 << n
 }
 
+#[tactic(auto, using(crate::proofs::Halves::low_bits_are))]
 fn low_bits(w: u64, k: u32) -> u64
     requires { k < 64 }
     ensures { result ≡ w % 2 ^ k }
@@ -43,6 +46,7 @@ fn branch(low: VectorSet, x: VectorSet, high: VectorSet) -> VectorSet
 
 // The truth table of a polynomial in the n lowest variables, whose products are the bits of w, with the tables put in for its
 // variables. By halves on the highest variable; a half with no products is passed over, so few products take little time.
+#[tactic(auto, using(crate::proofs::Halves::word_none, crate::proofs::Halves::word_one))]
 fn in_word(w: u64, tables: &[VectorSet; 8], n: usize) -> VectorSet
     requires { (n ≤ 6) × (w < 2 ^ (2 ^ n)) }
     ensures { (v : ℕ) → v < 256 → vectors result v ≡ value_in n (λ s. bit_at s w) (set_below 8 (λ i. vectors_of tables.now i v)) }
@@ -81,6 +85,7 @@ impl Residual {
     }
 
     // This polynomial with by[i] in the place of variable i + 1.
+    #[tactic(auto, using(crate::proofs::Results::values_of_substitute))]
     pub fn substitute(self, by: &[Residual; 8]) -> Residual
         ensures products { (s : ℕ) → s < 256 → terms result s ≡ substituted (terms self) (terms_of by.now) s }
         ensures values { (v : ℕ) → value (terms result) v ≡ value (terms self) (stepped (terms_of by.now) v) }

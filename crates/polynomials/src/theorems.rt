@@ -12,7 +12,6 @@ pub fn laws()
 {}
 
 // The products of the values are the products.
-
 pub fn back_to_products(r: Residual) -> Residual
     ensures { result ≡ r }
 {
@@ -20,7 +19,6 @@ pub fn back_to_products(r: Residual) -> Residual
 }
 
 // The values of the products are the values.
-
 pub fn back_to_values(t: VectorSet) -> VectorSet
     ensures { result ≡ t }
 {

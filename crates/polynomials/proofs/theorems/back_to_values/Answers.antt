@@ -1,10 +1,8 @@
-use Rattle.std.proofs.Common.{◌≡◌, ◌∙◌, arith}
-use Rattle.polynomials.proofs.FourWords.{equal_bits}
+use Rattle.std.proofs.Common.{◌∙◌, arith}
+use Rattle.polynomials.proofs.Results.{equal_sets}
 use Rattle.polynomials.proofs.theorems.back_to_values.Goals as goal
 
 pub returns : goal.returns
 returns c =
-    let e : c.to_values.result.bits ≡ c.args.t.bits
-    = equal_bits c.to_values.result.bits c.args.t.bits (omega arith) (omega arith)
-    (λ v l. c.to_values.ensures v l ∙ c.to_products.ensures.values v l) in
-    λ i. record { bits = e i }
+    equal_sets c.to_values.result c.args.t (omega arith) (omega arith)
+    (λ v l. c.to_values.ensures v l ∙ c.to_products.ensures.values v l)
