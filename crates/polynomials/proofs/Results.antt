@@ -59,18 +59,17 @@ values_of_substitute x z P exact v = in_cong 8 (holds z) (substitute (holds x) P
 
 -- ---- equal bits
 
-pub equal_residuals : (x y : Residual) → Fit x.bits → Fit y.bits → ((s : ℕ) → s < 256 → terms x s ≡ terms y s) → x ≡ y
-equal_residuals x y f g same = let e = equal_bits x.bits y.bits f g same in λ i. record { bits = e i }
+pub equal_by_values : (x y : Residual) → Fit x.bits → Fit y.bits → ((v : ℕ) → v < 256 → value (terms x) v ≡ value (terms y) v) → x ≡ y
+equal_by_values x y f g same =
+    let e = equal_bits x.bits y.bits f g (unique (terms x) (terms y) same) in λ i. record { bits = e i }
 
 pub equal_sets : (x y : VectorSet) → Fit x.bits → Fit y.bits → ((v : ℕ) → v < 256 → vectors x v ≡ vectors y v) → x ≡ y
 equal_sets x y f g same = let e = equal_bits x.bits y.bits f g same in λ i. record { bits = e i }
 
 pub same_values : (x y : Residual) → Fit x.bits → Fit y.bits → (r : Bool) → Decides r (x ≡ y)
     → Decides r ((v : ℕ) → v < 256 → value (terms x) v ≡ value (terms y) v)
-same_values x y f g r (to, from) = (
-  (λ t v l. ap (λ (z : Residual). value (terms z) v) (to t)),
-  (λ h. from (equal_residuals x y f g (unique (terms x) (terms y) h))),
-)
+same_values x y f g r (to, from) =
+    ((λ t v l. ap (λ (z : Residual). value (terms z) v) (to t)), (λ h. from (equal_by_values x y f g h)))
 
 -- z is what x and y share
 module _ (x y z : VectorSet) (both : (v : ℕ) → vectors z v ≡ (vectors x v && vectors y v)) (f : Fit x.bits) (g : Fit z.bits) (r : Bool) where

@@ -46,7 +46,6 @@ fn branch(low: VectorSet, x: VectorSet, high: VectorSet) -> VectorSet
 
 // The truth table of a polynomial in the n lowest variables, whose products are the bits of w, with the tables put in for its
 // variables. By halves on the highest variable; a half with no products is passed over, so few products take little time.
-#[tactic(auto, using(crate::proofs::Halves::word_none, crate::proofs::Halves::word_one))]
 fn in_word(w: u64, tables: &[VectorSet; 8], n: usize) -> VectorSet
     requires { (n ≤ 6) × (w < 2 ^ (2 ^ n)) }
     ensures { (v : ℕ) → v < 256 → vectors result v ≡ value_in n (λ s. bit_at s w) (set_below 8 (λ i. vectors_of tables.now i v)) }

@@ -12,6 +12,7 @@ pub fn laws()
 {}
 
 // The products of the values are the products.
+#[tactic(auto, using(crate::proofs::Results::equal_by_values))]
 pub fn back_to_products(r: Residual) -> Residual
     ensures { result ≡ r }
 {
@@ -19,6 +20,7 @@ pub fn back_to_products(r: Residual) -> Residual
 }
 
 // The values of the products are the values.
+#[tactic(auto, using(crate::proofs::Results::equal_sets))]
 pub fn back_to_values(t: VectorSet) -> VectorSet
     ensures { result ≡ t }
 {
