@@ -71,10 +71,17 @@ pub same_values : (x y : Residual) → Fit x.bits → Fit y.bits → (r : Bool) 
 same_values x y f g r (to, from) =
     ((λ t v l. ap (λ (z : Residual). value (terms z) v) (to t)), (λ h. from (equal_by_values x y f g h)))
 
+-- no word has a bit
+pub empty_is : (x : VectorSet) → Fit x.bits → (r : Bool) → Decides r (x.bits ≡ no_bits) → Decides r ((v : ℕ) → vectors x v ≡ false)
+empty_is x f r (to, from) = (
+  (λ t v. ap (λ (w : Bits256). holds w v) (to t) ∙ none_held v),
+  (λ h. from (equal_bits x.bits no_bits f (omega arith) (λ s l. h s ∙ sym (none_held s)))),
+)
+
 -- z is what x and y share
-module _ (x y z : VectorSet) (both : (v : ℕ) → vectors z v ≡ (vectors x v && vectors y v)) (f : Fit x.bits) (g : Fit z.bits) (r : Bool) where
-  pub within_is : Decides r (z ≡ x) → Decides r ((v : ℕ) → vectors x v ≡ true → vectors y v ≡ true)
-  within_is (to, from) = (
+module _ (x y z : VectorSet) (both : (v : ℕ) → vectors z v ≡ (vectors x v && vectors y v)) (r : Bool) where
+  pub within_is : Fit x.bits → Fit z.bits → Decides r (z ≡ x) → Decides r ((v : ℕ) → vectors x v ≡ true → vectors y v ≡ true)
+  within_is f g (to, from) = (
     (λ t v i. ap (λ (b : Bool). b && vectors y v) (sym i) ∙ sym (both v) ∙ ap (λ (w : VectorSet). vectors w v) (to t) ∙ i),
     (λ h. from (equal_sets z x g f (λ s l. both s ∙ keeps (vectors x s) (vectors y s) (h s)))),
   )
@@ -83,11 +90,10 @@ module _ (x y z : VectorSet) (both : (v : ℕ) → vectors z v ≡ (vectors x v 
       keeps true b h = h refl
       keeps false b h = refl
 
-  pub disjoint_is : (n : VectorSet) → ((v : ℕ) → vectors n v ≡ false) → Fit n.bits → Decides r (z ≡ n)
-      → Decides r ((v : ℕ) → vectors x v ≡ true → vectors y v ≡ false)
-  disjoint_is n none k (to, from) = (
-    (λ t v i. ap (λ (b : Bool). b && vectors y v) (sym i) ∙ sym (both v) ∙ ap (λ (w : VectorSet). vectors w v) (to t) ∙ none v),
-    (λ h. from (equal_sets z n g k (λ s l. both s ∙ drops (vectors x s) (vectors y s) (h s) ∙ sym (none s)))),
+  pub disjoint_is : Decides r ((v : ℕ) → vectors z v ≡ false) → Decides r ((v : ℕ) → vectors x v ≡ true → vectors y v ≡ false)
+  disjoint_is (to, from) = (
+    (λ t v i. ap (λ (b : Bool). b && vectors y v) (sym i) ∙ sym (both v) ∙ to t v),
+    (λ h. from (λ v. both v ∙ drops (vectors x v) (vectors y v) (h v))),
   )
     where
       drops : (a b : Bool) → (a ≡ true → b ≡ false) → (a && b) ≡ false

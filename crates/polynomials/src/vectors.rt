@@ -31,6 +31,12 @@ impl VectorSet {
         VectorSet { bits: Bits256::ALL }
     }
 
+    fn is_empty(self) -> bool
+        ensures { Decides result ((v : ℕ) → vectors self v ≡ false) }
+    {
+        self.bits == Bits256::NONE
+    }
+
     pub fn has(self, v: u8) -> bool
         ensures { result ≡ vectors self v }
     {
@@ -82,10 +88,11 @@ impl VectorSet {
     }
 
     // Whether no vector is in `other` too.
+    #[tactic(auto, using(crate::proofs::Results::disjoint_is))]
     pub fn disjoint(self, other: VectorSet) -> bool
         ensures { Decides result ((v : ℕ) → vectors self v ≡ true → vectors other v ≡ false) }
     {
-        self.intersection(other) == VectorSet::empty()
+        self.intersection(other).is_empty()
     }
 
     // The one polynomial whose truth table this is.

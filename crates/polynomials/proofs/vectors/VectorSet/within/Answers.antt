@@ -3,4 +3,4 @@ use Rattle.polynomials.proofs.Results.{within_is}
 use Rattle.polynomials.proofs.vectors.VectorSet.within.Goals as goal
 
 pub returns : goal.returns
-returns c = within_is c.args.self c.args.other c.intersection.result c.intersection.ensures (omega arith) (omega arith) c.eq.result (search rules)
+returns c = within_is c.args.self c.args.other c.intersection.result c.intersection.ensures c.eq.result (omega arith) (omega arith) (search rules)
