@@ -1,5 +1,5 @@
 -- The bits of four words: where each stands, one that is changed, all of them at once, and words compared by their bits.
-use Rattle.std.proofs.Common.{◌≡◌, ℕ, zero, suc, ◌+◌, ◌*◌, ◌/◌, ◌%◌, ◌^◌, ◌<◌, Bool, true, false, cond, ◌&&◌, ◌||◌, eqb, ◌⊎◌, Decides, sym, refl, ap, ◌∙◌, ap₂, inl, inr, ⊎_elim, one-mul, arith, pow_pos}
+use Rattle.std.proofs.Common.{◌≡◌, ℕ, zero, suc, ◌+◌, ◌*◌, ◌/◌, ◌%◌, ◌^◌, ◌<◌, Bool, true, false, cond, ◌&&◌, ◌||◌, eqb, ◌⊎◌, sym, refl, ap, ◌∙◌, ap₂, inl, inr, ⊎_elim, one-mul, arith, pow_pos}
 use lib.Bits.{bit_and, bit_or, bit_xor, and_mask}
 use Rattle.std.proofs.lemmas.Bool.{cases_eq, eq-eqb, ne_eqb}
 use Rattle.polynomials.specs.declared.bits.Bits256.{Bits256}
@@ -71,10 +71,10 @@ same_test s t q =
     (cases_eq s t)
 
 -- `1 << (s % 64)` in word s / 64, and nothing in the others
-pub one_held : (y : Bits256) (s t : ℕ)
+pub single_held : (y : Bits256) (s t : ℕ)
     → ((j : ℕ) → word_of y j ≡ cond (eqb (s / 64) j) ((1 * 2 ^ (s % 64)) % 2 ^ 64) 0) → holds y t ≡ eqb s t
 unfolding holds
-one_held y s t words = ap (bit_at (t % 64)) (words (t / 64)) ∙ go (cases_eq (s / 64) (t / 64))
+single_held y s t words = ap (bit_at (t % 64)) (words (t / 64)) ∙ go (cases_eq (s / 64) (t / 64))
   where
     go : (s / 64 ≡ t / 64) ⊎ (s / 64 ≡ t / 64 → ⊥)
         → bit_at (t % 64) (cond (eqb (s / 64) (t / 64)) ((1 * 2 ^ (s % 64)) % 2 ^ 64) 0) ≡ eqb s t
@@ -92,25 +92,19 @@ one_held y s t words = ap (bit_at (t % 64)) (words (t / 64)) ∙ go (cases_eq (s
 -- ---- an operation on words that works bit by bit as f does
 
 module _ (op : ℕ → ℕ → ℕ) (f : Bool → Bool → Bool) (on_bits : (i a b : ℕ) → bit_at i (op a b) ≡ f (bit_at i a) (bit_at i b)) where
-  -- on each of the four words
-  each_word : (x y : Bits256) → Bits256
-  each_word x y = record { a = op x.a y.a; b = op x.b y.b; c = op x.c y.c; d = op x.d y.d }
-
   -- word by word
-  words_of : op 0 0 ≡ 0 → (x y : Bits256) (q : ℕ) → word_of (each_word x y) q ≡ op (word_of x q) (word_of y q)
-  unfolding each_word
-  words_of z x y zero = refl
-  words_of z x y (suc zero) = refl
-  words_of z x y (suc (suc zero)) = refl
-  words_of z x y (suc (suc (suc zero))) = refl
-  words_of z x y (suc (suc (suc (suc q)))) = sym z
+  words : op 0 0 ≡ 0 → (x y z : Bits256) → EachWord (λ a b c. c ≡ op a b) x y z → (q : ℕ) → word_of z q ≡ op (word_of x q) (word_of y q)
+  words none x y z each zero = each.a
+  words none x y z each (suc zero) = each.b
+  words none x y z each (suc (suc zero)) = each.c
+  words none x y z each (suc (suc (suc zero))) = each.d
+  words none x y z each (suc (suc (suc (suc q)))) = sym none
 
   -- bit by bit
   pub by_each_word : op 0 0 ≡ 0 → (x y z : Bits256) → EachWord (λ a b c. c ≡ op a b) x y z → (s : ℕ) → holds z s ≡ f (holds x s) (holds y s)
-  unfolding holds each_word
+  unfolding holds
   by_each_word none x y z each s =
-      ap (λ (w : Bits256). bit_at (s % 64) (word_of w (s / 64))) (λ i. record { a = each.a i; b = each.b i; c = each.c i; d = each.d i })
-      ∙ ap (bit_at (s % 64)) (words_of none x y (s / 64)) ∙ on_bits (s % 64) (word_of x (s / 64)) (word_of y (s / 64))
+      ap (bit_at (s % 64)) (words none x y z each (s / 64)) ∙ on_bits (s % 64) (word_of x (s / 64)) (word_of y (s / 64))
 
 -- the three operations
 pub words_and : (x y z : Bits256) → EachWord (λ a b c. c ≡ bit_and a b) x y z → (s : ℕ) → holds z s ≡ (holds x s && holds y s)

@@ -1,5 +1,5 @@
 -- What the methods give, from what the words hold.
-use Rattle.std.proofs.Common.{◌≡◌, ℕ, zero, suc, ◌-◌, ◌*◌, ◌%◌, ◌^◌, ◌<◌, ◌≤◌, Bool, true, false, ◌&&◌, eqb, ◌⊎◌, Decides, sym, refl, ap, ◌∙◌, ap₂, inl, inr, arith}
+use Rattle.std.proofs.Common.{◌≡◌, ℕ, ◌<◌, Bool, true, false, ◌&&◌, eqb, Decides, sym, refl, ap, ◌∙◌, arith}
 use Rattle.polynomials.specs.declared.bits.Bits256.{Bits256}
 use Rattle.polynomials.specs.declared.residual.Residual.{Residual}
 use Rattle.polynomials.specs.declared.vectors.VectorSet.{VectorSet}
@@ -9,7 +9,7 @@ use Rattle.polynomials.specs.Polynomial.{Polynomial, one, variable, sum, product
 use Rattle.polynomials.proofs.Sums.{eqb_comm}
 use Rattle.polynomials.proofs.FourWords.{Fit, equal_bits, none_held}
 use Rattle.polynomials.proofs.Values.{in_cong}
-use Rattle.polynomials.proofs.Valued.{value_sum, value_product, value_substitute, value_value, value_variable, variable_is, variable_none, unique}
+use Rattle.polynomials.proofs.Valued.{value_sum, value_product, value_substitute, value_value, value_variable, unique}
 
 -- ---- one, and a variable
 

@@ -68,8 +68,8 @@ impl Bits256 {
     }
 
     // Bit s alone.
-    #[tactic(auto, using(crate::proofs::FourWords::one_held))]
-    pub(crate) fn one(s: u8) -> Bits256
+    #[tactic(auto, using(crate::proofs::FourWords::single_held))]
+    pub(crate) fn single(s: u8) -> Bits256
         ensures { (t : ℕ) → holds result t ≡ nat_eq s t }
     {
         Bits256::one_word(s / 64, 1 << (s % 64))
@@ -83,7 +83,7 @@ impl Bits256 {
         (self.word(s / 64) >> (s % 64)) & 1 == 1
     }
 
-    // What f makes of each word and that of the other.
+    // Word by word: what f gives of each pair.
     fn zip_with<F: Fn(u64, u64) -> u64>(self, other: Bits256, f: F) -> Bits256
         requires { F.IsAlwaysCallable f }
         ensures { EachWord (F.post f) self other result }

@@ -55,7 +55,7 @@ impl Residual {
         ensures { (t : ℕ) → terms result t ≡ (terms self t ⊕ nat_eq s t) }
     {
         Residual {
-            bits: self.bits ^ Bits256::one(s),
+            bits: self.bits ^ Bits256::single(s),
         }
     }
 

@@ -31,6 +31,7 @@ impl VectorSet {
         VectorSet { bits: Bits256::ALL }
     }
 
+    // Whether it has no vector.
     fn is_empty(self) -> bool
         ensures { Decides result ((v : ℕ) → vectors self v ≡ false) }
     {
@@ -46,7 +47,7 @@ impl VectorSet {
     pub fn add(&mut self, v: u8)
         ensures { (w : ℕ) → vectors self.new w ≡ (vectors self.old w || v == w) }
     {
-        self.bits = self.bits | Bits256::one(v);
+        self.bits = self.bits | Bits256::single(v);
     }
 
     pub fn complement(self) -> VectorSet

@@ -1,5 +1,6 @@
 -- One member more. Assumes nothing.
-use Rattle.std.proofs.Common.{◌≡◌, ℕ, ◌+◌, ◌<◌, Bool, true, false, ◌||◌, eqb, ◌≢◌, ◌⊎◌, List, length, get_or, set, sym, refl, ap, ◌∙◌, inl, inr, ⊎_elim, arith, length-set, get_or-set_other, get_or-set_same}
+use Rattle.std.proofs.Common.{◌≡◌, ℕ, ◌+◌, ◌<◌, true, false, ◌||◌, eqb, ◌≢◌, ◌⊎◌, List, length, get_or, set, sym, refl, ap, ◌∙◌, inl, inr, ⊎_elim, arith, length-set, get_or-set_other, get_or-set_same}
+use mathlib.Core.Bool.{or-true, or-false}
 use Rattle.std.proofs.lemmas.Bool.{cases_eq, eq-eqb, ne_eqb, both_ways}
 use Rattle.std.proofs.Math.Logic.{∥∥₁_elim, ∥∥₁_map}
 use Rattle.std.proofs.Math.Bridge.{le_prop}
@@ -9,22 +10,14 @@ use Rattle.polynomials.specs.declared.vectors.VectorSet.{VectorSet}
 use Rattle.reachable.specs.Listed.{size, Listed}
 use Rattle.reachable.proofs.Sizes.{size_none, size_le, size_more}
 
-or_true : (b : Bool) → (b || true) ≡ true
-or_true true = refl
-or_true false = refl
-
-or_false : (b : Bool) → (b || false) ≡ b
-or_false true = refl
-or_false false = refl
-
 -- s is the set w with v
 module _ (w s : VectorSet) (v : ℕ) (added : (u : ℕ) → vectors s u ≡ (vectors w u || eqb v u)) where
   pub new : vectors s v ≡ true
-  new = added v ∙ ap (λ b. vectors w v || b) (eq-eqb v v refl) ∙ or_true (vectors w v)
+  new = added v ∙ ap (λ b. vectors w v || b) (eq-eqb v v refl) ∙ or-true (vectors w v)
 
   pub others : (u : ℕ) → (u ≡ v → ⊥) → vectors s u ≡ vectors w u
   others u n =
-      added u ∙ ap (λ b. vectors w u || b) (ne_eqb v u (λ e. n (sym e))) ∙ or_false (vectors w u)
+      added u ∙ ap (λ b. vectors w u || b) (ne_eqb v u (λ e. n (sym e))) ∙ or-false (vectors w u)
 
   pub kept : (u : ℕ) → vectors w u ≡ true → vectors s u ≡ true
   kept u h = ⊎_elim (λ (e : u ≡ v). ap (vectors s) e ∙ new) (λ (n : u ≡ v → ⊥). others u n ∙ h) (cases_eq u v)

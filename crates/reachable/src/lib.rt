@@ -26,7 +26,7 @@ pub fn reachable<M: Machine>(m: &M) -> VectorSet
 }
 
 // Whether the truth table has the value `kept` whatever comes, of any machine that can come to the vectors in `reached` and
-// to no others.
+// to no others. `kept` is a truth value, and so a bool.
 pub fn for_good(table: VectorSet, kept: bool, reached: VectorSet) -> bool
     ensures { (m : Moves) → Exact m (vectors reached) → Decides result (ForGood m (vectors table) kept) }
 {

@@ -1,4 +1,4 @@
-use Rattle.std.proofs.Common.{◌<◌, sym, ◌∙◌, arith}
+use Rattle.std.proofs.Common.{sym, ◌∙◌, arith}
 use Rattle.reachable.proofs.Visits.{place}
 use Rattle.reachable.proofs.found.Found.visit.Goals as goal
 
