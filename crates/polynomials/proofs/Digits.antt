@@ -4,6 +4,7 @@ use native.Mathlib.Nat.{div-eq_of_lt}
 use lib.Bits.{bit_and, bit_or, bit_xor, or_shr, and_shr, xor_shr, or_mod, and_mod, xor_mod, shifted_even, or_shifted_r}
 use lib.Pow.{high, low, field, mod-mod-pow, shl-shr}
 use Rattle.std.proofs.lemmas.Bool.{cases_eq, cases_lt, eq-eqb, ne_eqb}
+use Rattle.std.proofs.lemmas.Nat.Bits.{bit_at-pow_same, bit_at-pow_other}
 use Rattle.polynomials.specs.Sets.{◌⊕◌, bit_at, set_below}
 
 -- ---- bit operations
@@ -16,7 +17,17 @@ no_digit h = absurd (not-suc-le-zero (le_of_suc-le-suc (le_of_suc-le-suc h)))
 module _ (op : ℕ → ℕ → ℕ) (f : Bool → Bool → Bool)
     (shr : (a b k : ℕ) → op a b / 2 ^ k ≡ op (a / 2 ^ k) (b / 2 ^ k))
     (low_digits : (a b k : ℕ) → op a b % 2 ^ k ≡ op (a % 2 ^ k) (b % 2 ^ k))
-    (both : (x y : ℕ) → x < 2 → y < 2 → eqb (op x y) 1 ≡ f (eqb x 1) (eqb y 1)) where
+    (none : eqb (op 0 0) 1 ≡ f false false) (second : eqb (op 0 1) 1 ≡ f false true)
+    (first : eqb (op 1 0) 1 ≡ f true false) (two : eqb (op 1 1) 1 ≡ f true true) where
+  both : (x y : ℕ) → x < 2 → y < 2 → eqb (op x y) 1 ≡ f (eqb x 1) (eqb y 1)
+  both zero zero h l = none
+  both zero (suc zero) h l = second
+  both (suc zero) zero h l = first
+  both (suc zero) (suc zero) h l = two
+  both zero (suc (suc y)) h l = no_digit l
+  both (suc zero) (suc (suc y)) h l = no_digit l
+  both (suc (suc x)) y h l = no_digit h
+
   by_digits : (i a b : ℕ) → bit_at i (op a b) ≡ f (bit_at i a) (bit_at i b)
   unfolding bit_at
   by_digits i a b =
@@ -24,37 +35,15 @@ module _ (op : ℕ → ℕ → ℕ) (f : Bool → Bool → Bool)
       ∙ ap (λ (x : ℕ). eqb x 1) (low_digits (a / 2 ^ i) (b / 2 ^ i) 1)
       ∙ both (a / 2 ^ i % 2) (b / 2 ^ i % 2) (mod-lt (a / 2 ^ i) (omega arith)) (mod-lt (b / 2 ^ i) (omega arith))
 
--- the three operations on two digits
-or_digits : (x y : ℕ) → x < 2 → y < 2 → eqb (bit_or x y) 1 ≡ (eqb x 1 || eqb y 1)
-or_digits zero y h l = refl
-or_digits (suc zero) zero h l = refl
-or_digits (suc zero) (suc zero) h l = refl
-or_digits (suc zero) (suc (suc y)) h l = no_digit l
-or_digits (suc (suc x)) y h l = no_digit h
-
-and_digits : (x y : ℕ) → x < 2 → y < 2 → eqb (bit_and x y) 1 ≡ (eqb x 1 && eqb y 1)
-and_digits zero y h l = refl
-and_digits (suc zero) zero h l = refl
-and_digits (suc zero) (suc zero) h l = refl
-and_digits (suc zero) (suc (suc y)) h l = no_digit l
-and_digits (suc (suc x)) y h l = no_digit h
-
-xor_digits : (x y : ℕ) → x < 2 → y < 2 → eqb (bit_xor x y) 1 ≡ (eqb x 1 ⊕ eqb y 1)
-xor_digits zero y h l = refl
-xor_digits (suc zero) zero h l = refl
-xor_digits (suc zero) (suc zero) h l = refl
-xor_digits (suc zero) (suc (suc y)) h l = no_digit l
-xor_digits (suc (suc x)) y h l = no_digit h
-
--- and so on numbers
+-- the three operations
 pub bit_or_lem : (i a b : ℕ) → bit_at i (bit_or a b) ≡ (bit_at i a || bit_at i b)
-bit_or_lem = by_digits bit_or ◌||◌ or_shr or_mod or_digits
+bit_or_lem = by_digits bit_or ◌||◌ or_shr or_mod refl refl refl refl
 
 pub bit_and_lem : (i a b : ℕ) → bit_at i (bit_and a b) ≡ (bit_at i a && bit_at i b)
-bit_and_lem = by_digits bit_and ◌&&◌ and_shr and_mod and_digits
+bit_and_lem = by_digits bit_and ◌&&◌ and_shr and_mod refl refl refl refl
 
 pub bit_xor_lem : (i a b : ℕ) → bit_at i (bit_xor a b) ≡ (bit_at i a ⊕ bit_at i b)
-bit_xor_lem = by_digits bit_xor ◌⊕◌ xor_shr xor_mod xor_digits
+bit_xor_lem = by_digits bit_xor ◌⊕◌ xor_shr xor_mod refl refl refl refl
 
 -- ---- high and low digits
 
@@ -93,23 +82,15 @@ shl_high j k a =
     ap (λ (x : ℕ). eqb (x % 2) 1) (sym (shr-shr (a * 2 ^ k) k j))
     ∙ ap (λ (x : ℕ). eqb (x / 2 ^ j % 2) 1) (shl-shr a k)
 
--- a single bit_at
+-- a single bit
 pub bit_pow : (i j : ℕ) → bit_at j (2 ^ i) ≡ eqb i j
 unfolding bit_at
 bit_pow i j =
-    ap (bit_at j) (sym (one-mul (2 ^ i)))
-    ∙ ⊎_elim (λ (l : j < i). shl_low j i 1 l ∙ sym (ne_eqb i j (λ e. omega arith)))
-    (λ (l : i ≤ j). let e : i + (j - i) ≡ j = omega arith in
-    ap (λ (k : ℕ). bit_at k (1 * 2 ^ i)) (sym e) ∙ shl_high (j - i) i 1 ∙ first (j - i) ∙ shift (j - i) e)
-    (cases_lt j i)
-  where
-    first : (d : ℕ) → bit_at d 1 ≡ eqb 0 d
-    first zero = refl
-    first (suc d) = bit_small (suc d) 1 (omega (arith, pow-suc 2 d, pow_pos d)) ∙ sym (ne_eqb 0 (suc d) (λ e. omega arith))
-
-    shift : (d : ℕ) → i + d ≡ j → eqb 0 d ≡ eqb i j
-    shift zero e = refl ∙ sym (eq-eqb i j (omega arith))
-    shift (suc d) e = ne_eqb 0 (suc d) (λ x. omega arith) ∙ sym (ne_eqb i j (λ x. omega arith))
+    ⊎_elim
+    (λ (e : i ≡ j).
+    ap (λ (k : ℕ). eqb (2 ^ i / 2 ^ k % 2) 1) (sym e) ∙ ap (λ (x : ℕ). eqb x 1) (bit_at-pow_same i) ∙ sym (eq-eqb i j e))
+    (λ (n : i ≡ j → ⊥). ap (λ (x : ℕ). eqb x 1) (bit_at-pow_other i j (λ e. n (sym e))) ∙ sym (ne_eqb i j n))
+    (cases_eq i j)
 
 -- q above the n low digits r
 pub bit_low : (i n q r : ℕ) → i < n → r < 2 ^ n → bit_at i (q * 2 ^ n + r) ≡ bit_at i r

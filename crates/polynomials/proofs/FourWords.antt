@@ -1,12 +1,12 @@
 -- The bits of four words: where each stands, one that is changed, all of them at once, and words compared by their bits.
-use Rattle.std.proofs.Common.{◌≡◌, ℕ, zero, suc, ◌+◌, ◌*◌, ◌/◌, ◌%◌, ◌^◌, ◌<◌, Bool, true, false, cond, eqb, ◌⊎◌, Decides, sym, refl, ap, ◌∙◌, ap₂, inl, inr, ⊎_elim, one-mul, arith, pow_pos}
-use lib.Bits.{bit_and, and_mask}
+use Rattle.std.proofs.Common.{◌≡◌, ℕ, zero, suc, ◌+◌, ◌*◌, ◌/◌, ◌%◌, ◌^◌, ◌<◌, Bool, true, false, cond, ◌&&◌, ◌||◌, eqb, ◌⊎◌, sym, refl, ap, ◌∙◌, ap₂, inl, inr, ⊎_elim, one-mul, arith, pow_pos}
+use lib.Bits.{bit_and, bit_or, bit_xor, and_mask}
 use Rattle.std.proofs.lemmas.Bool.{cases_eq, eq-eqb, ne_eqb}
 use Rattle.polynomials.specs.declared.bits.Bits256.{Bits256}
-use Rattle.polynomials.specs.Held.{word_of, holds, no_bits}
-use Rattle.polynomials.specs.Sets.{bit_at, all_below}
+use Rattle.polynomials.specs.Held.{word_of, holds, no_bits, EachWord}
+use Rattle.polynomials.specs.Sets.{◌⊕◌, bit_at, all_below}
 use Rattle.polynomials.proofs.Sums.{all_at}
-use Rattle.polynomials.proofs.Digits.{bit_mod, bit_pow, bit_zero, same_bits}
+use Rattle.polynomials.proofs.Digits.{bit_or_lem, bit_and_lem, bit_xor_lem, bit_mod, bit_pow, bit_zero, same_bits}
 
 -- ---- where a bit stands
 
@@ -14,6 +14,11 @@ use Rattle.polynomials.proofs.Digits.{bit_mod, bit_pow, bit_zero, same_bits}
 pub tested : (x k : ℕ) → eqb (bit_and (x / 2 ^ k) 1) 1 ≡ bit_at k x
 unfolding bit_at
 tested x k = ap (λ (n : ℕ). eqb n 1) (and_mask (x / 2 ^ k) 1)
+
+-- so tested, in the word where it stands
+pub has_held : (x : Bits256) (s w : ℕ) → w ≡ word_of x (s / 64) → eqb (bit_and (w / 2 ^ (s % 64)) 1) 1 ≡ holds x s
+unfolding holds
+has_held x s w e = tested w (s % 64) ∙ ap (bit_at (s % 64)) e
 
 -- bit s stands in word s / 64
 pub place : (x : Bits256) (s q k : ℕ) → s / 64 ≡ q → s % 64 ≡ k → holds x s ≡ bit_at k (word_of x q)
@@ -56,62 +61,60 @@ all_held s l =
     words (suc (suc (suc zero))) h = refl
     words (suc (suc (suc (suc q)))) h = absurd (omega arith)
 
+-- ---- one bit
+
+-- in one word, equal bits are equal places
+same_test : (s t : ℕ) → s / 64 ≡ t / 64 → eqb (s % 64) (t % 64) ≡ eqb s t
+same_test s t q =
+    ⊎_elim (λ (e : s ≡ t). eq-eqb (s % 64) (t % 64) (omega arith) ∙ sym (eq-eqb s t e))
+    (λ n. ne_eqb (s % 64) (t % 64) (λ e. n (omega arith)) ∙ sym (ne_eqb s t n))
+    (cases_eq s t)
+
+-- `1 << (s % 64)` in word s / 64, and nothing in the others
+pub single_held : (y : Bits256) (s t : ℕ)
+    → ((j : ℕ) → word_of y j ≡ cond (eqb (s / 64) j) ((1 * 2 ^ (s % 64)) % 2 ^ 64) 0) → holds y t ≡ eqb s t
+unfolding holds
+single_held y s t words = ap (bit_at (t % 64)) (words (t / 64)) ∙ go (cases_eq (s / 64) (t / 64))
+  where
+    go : (s / 64 ≡ t / 64) ⊎ (s / 64 ≡ t / 64 → ⊥)
+        → bit_at (t % 64) (cond (eqb (s / 64) (t / 64)) ((1 * 2 ^ (s % 64)) % 2 ^ 64) 0) ≡ eqb s t
+    go (inl q) =
+        ap (λ (b : Bool). bit_at (t % 64) (cond b ((1 * 2 ^ (s % 64)) % 2 ^ 64) 0)) (eq-eqb (s / 64) (t / 64) q)
+        ∙ bit_mod (t % 64) 64 (1 * 2 ^ (s % 64)) (omega arith)
+        ∙ ap (bit_at (t % 64)) (one-mul (2 ^ (s % 64)))
+        ∙ bit_pow (s % 64) (t % 64)
+        ∙ same_test s t q
+    go (inr d) =
+        ap (λ (b : Bool). bit_at (t % 64) (cond b ((1 * 2 ^ (s % 64)) % 2 ^ 64) 0)) (ne_eqb (s / 64) (t / 64) d)
+        ∙ bit_zero (t % 64)
+        ∙ sym (ne_eqb s t (λ r. d (ap (λ (n : ℕ). n / 64) r)))
+
 -- ---- an operation on words that works bit by bit as f does
 
 module _ (op : ℕ → ℕ → ℕ) (f : Bool → Bool → Bool) (on_bits : (i a b : ℕ) → bit_at i (op a b) ≡ f (bit_at i a) (bit_at i b)) where
-  -- on each of the four words
-  each_word : (x y : Bits256) → Bits256
-  each_word x y = record { a = op x.a y.a; b = op x.b y.b; c = op x.c y.c; d = op x.d y.d }
-
   -- word by word
-  words_of : op 0 0 ≡ 0 → (x y : Bits256) (q : ℕ) → word_of (each_word x y) q ≡ op (word_of x q) (word_of y q)
-  unfolding each_word
-  words_of z x y zero = refl
-  words_of z x y (suc zero) = refl
-  words_of z x y (suc (suc zero)) = refl
-  words_of z x y (suc (suc (suc zero))) = refl
-  words_of z x y (suc (suc (suc (suc q)))) = sym z
+  words : op 0 0 ≡ 0 → (x y z : Bits256) → EachWord (λ a b c. c ≡ op a b) x y z → (q : ℕ) → word_of z q ≡ op (word_of x q) (word_of y q)
+  words none x y z each zero = each.a
+  words none x y z each (suc zero) = each.b
+  words none x y z each (suc (suc zero)) = each.c
+  words none x y z each (suc (suc (suc zero))) = each.d
+  words none x y z each (suc (suc (suc (suc q)))) = sym none
 
   -- bit by bit
-  pub by_each_word : op 0 0 ≡ 0 → (x y : Bits256) (s : ℕ)
-      → holds (record { a = op x.a y.a; b = op x.b y.b; c = op x.c y.c; d = op x.d y.d }) s ≡ f (holds x s) (holds y s)
-  unfolding holds each_word
-  by_each_word z x y s =
-      ap (bit_at (s % 64)) (words_of z x y (s / 64)) ∙ on_bits (s % 64) (word_of x (s / 64)) (word_of y (s / 64))
-
-  -- with `1 << k`, on one word
-  one_bit : (x k j : ℕ) → j < 64 → bit_at j (op x ((1 * 2 ^ k) % 2 ^ 64)) ≡ f (bit_at j x) (eqb k j)
-  one_bit x k j h =
-      on_bits j x ((1 * 2 ^ k) % 2 ^ 64)
-      ∙ ap (f (bit_at j x)) (bit_mod j 64 (1 * 2 ^ k) h ∙ ap (bit_at j) (one-mul (2 ^ k)) ∙ bit_pow k j)
-
-  -- in one word, equal bits are equal places
-  same_test : (s t : ℕ) → s / 64 ≡ t / 64 → eqb (s % 64) (t % 64) ≡ eqb s t
-  same_test s t q =
-      ⊎_elim (λ (e : s ≡ t). eq-eqb (s % 64) (t % 64) (omega arith) ∙ sym (eq-eqb s t e))
-      (λ n. ne_eqb (s % 64) (t % 64) (λ e. n (omega arith)) ∙ sym (ne_eqb s t n))
-      (cases_eq s t)
-
-  -- with bit s, where the word of bit s alone is changed
-  pub one_changed : ((b : Bool) → f b false ≡ b) → (x y : Bits256) (s w t : ℕ) → w ≡ word_of x (s / 64)
-      → word_of y (t / 64) ≡ cond (eqb (s / 64) (t / 64)) (op w ((1 * 2 ^ (s % 64)) % 2 ^ 64)) (word_of x (t / 64))
-      → holds y t ≡ f (holds x t) (eqb s t)
+  pub by_each_word : op 0 0 ≡ 0 → (x y z : Bits256) → EachWord (λ a b c. c ≡ op a b) x y z → (s : ℕ) → holds z s ≡ f (holds x s) (holds y s)
   unfolding holds
-  one_changed keeps x y s w t here e = ap (bit_at (t % 64)) e ∙ go (cases_eq (s / 64) (t / 64))
-    where
-      new : ℕ
-      new = op w ((1 * 2 ^ (s % 64)) % 2 ^ 64)
+  by_each_word none x y z each s =
+      ap (bit_at (s % 64)) (words none x y z each (s / 64)) ∙ on_bits (s % 64) (word_of x (s / 64)) (word_of y (s / 64))
 
-      go : (s / 64 ≡ t / 64) ⊎ (s / 64 ≡ t / 64 → ⊥)
-          → bit_at (t % 64) (cond (eqb (s / 64) (t / 64)) new (word_of x (t / 64))) ≡ f (bit_at (t % 64) (word_of x (t / 64))) (eqb s t)
-      go (inl q) =
-          ap (λ (b : Bool). bit_at (t % 64) (cond b new (word_of x (t / 64)))) (eq-eqb (s / 64) (t / 64) q)
-          ∙ one_bit w (s % 64) (t % 64) (omega arith)
-          ∙ ap₂ (λ (n : ℕ) (b : Bool). f (bit_at (t % 64) n) b) (here ∙ ap (word_of x) q) (same_test s t q)
-      go (inr d) =
-          ap (λ (b : Bool). bit_at (t % 64) (cond b new (word_of x (t / 64)))) (ne_eqb (s / 64) (t / 64) d)
-          ∙ sym (keeps (bit_at (t % 64) (word_of x (t / 64))))
-          ∙ ap (f (bit_at (t % 64) (word_of x (t / 64)))) (sym (ne_eqb s t (λ r. d (ap (λ (n : ℕ). n / 64) r))))
+-- the three operations
+pub words_and : (x y z : Bits256) → EachWord (λ a b c. c ≡ bit_and a b) x y z → (s : ℕ) → holds z s ≡ (holds x s && holds y s)
+words_and = by_each_word bit_and ◌&&◌ bit_and_lem refl
+
+pub words_or : (x y z : Bits256) → EachWord (λ a b c. c ≡ bit_or a b) x y z → (s : ℕ) → holds z s ≡ (holds x s || holds y s)
+words_or = by_each_word bit_or ◌||◌ bit_or_lem refl
+
+pub words_xor : (x y z : Bits256) → EachWord (λ a b c. c ≡ bit_xor a b) x y z → (s : ℕ) → holds z s ≡ (holds x s ⊕ holds y s)
+words_xor = by_each_word bit_xor ◌⊕◌ bit_xor_lem refl
 
 -- ---- words compared
 
@@ -138,23 +141,3 @@ equal_bits x y f g same = λ i. record { a = word 0 (omega arith) i; b = word 1 
     word q h = same_bits 64 (word_of x q) (word_of y q) (word_fits x f q) (word_fits y g q)
         (λ k l. sym (place x (64 * q + k) q k (omega arith) (omega arith)) ∙ same (64 * q + k) (omega arith)
         ∙ place y (64 * q + k) q k (omega arith) (omega arith))
-
--- a test of the words is a test of the bits
-pub record Compares (x y : Bits256) (r : Bool) : Type 0 where
-  pub equal : Decides r (x ≡ y)
-  pub bits : Decides r ((s : ℕ) → s < 256 → holds x s ≡ holds y s)
-
--- from what the test of the fields says
-pub compares : (x y : Bits256) → Fit x → Fit y → (r : Bool)
-    → (r ≡ true → (x.a ≡ y.a) × (x.b ≡ y.b) × (x.c ≡ y.c) × (x.d ≡ y.d))
-    → (x.a ≡ y.a → x.b ≡ y.b → x.c ≡ y.c → x.d ≡ y.d → r ≡ true) → Compares x y r
-compares x y f g r to from = record {
-  equal = (join, split);
-  bits = ((λ t s l. ap (λ (z : Bits256). holds z s) (join t)), (λ h. split (equal_bits x y f g h)));
-}
-  where
-    join : r ≡ true → x ≡ y
-    join t = let (a, b, c, d) = to t in λ i. record { a = a i; b = b i; c = c i; d = d i }
-
-    split : x ≡ y → r ≡ true
-    split e = from (λ i. (e i).a) (λ i. (e i).b) (λ i. (e i).c) (λ i. (e i).d)

@@ -1,5 +1,7 @@
 -- A word of 2 ^ n bits as a polynomial in n variables, by halves.
-use Rattle.std.proofs.Common.{◌≡◌, ℕ, suc, ◌+◌, ◌/◌, ◌%◌, ◌^◌, ◌<◌, Bool, true, false, ◌&&◌, eqb, sym, refl, ap, ◌∙◌, subst, ap₂, arith, shr-shr, shr_lt}
+use Rattle.std.proofs.Common.{◌≡◌, ℕ, suc, ◌+◌, ◌-◌, ◌*◌, ◌/◌, ◌%◌, ◌^◌, ◌<◌, ◌≤◌, Bool, true, false, ◌&&◌, eqb, sym, refl, ap, ◌∙◌, subst, ap₂, arith, shr-shr, shr_lt, pow_mono}
+use lib.Bits.{bit_and, and_mask}
+use Rattle.std.proofs.lemmas.Nat.{one_shl}
 use Rattle.polynomials.specs.Sets.{◌⊕◌, bit_at}
 use Rattle.polynomials.specs.Polynomial.{value_in}
 use Rattle.polynomials.proofs.Digits.{bit_mod, bit_zero, double}
@@ -38,3 +40,15 @@ pub half_fits : (n m h w : ℕ) → n ≡ suc m → h ≡ 2 ^ m → w < 2 ^ (2 ^
 half_fits n m h w e f l =
     let two : 2 ^ n ≡ h + h = ap (λ (k : ℕ). 2 ^ k) e ∙ double m ∙ ap₂ (λ (x y : ℕ). x + y) (sym f) (sym f) in
     subst (λ (x : ℕ). w / 2 ^ h < 2 ^ x) f (shr_lt h h (subst (λ (x : ℕ). w < 2 ^ x) two l))
+
+-- `1 << n`
+pub power_is : (n : ℕ) → n < 6 → ((1 * 2 ^ n) % 2 ^ 32 ≡ 2 ^ n) × ((1 * 2 ^ n) % 2 ^ 32 ≤ 32)
+power_is n h =
+    let e = one_shl n 32 (omega arith) in
+    let l : n ≤ 5 = omega arith in
+    let p : 2 ^ n ≤ 2 ^ 5 = pow_mono l in
+    (e, omega arith)
+
+-- `w & ((1 << k) - 1)`
+pub low_bits_are : (w k : ℕ) → k < 64 → bit_and w ((1 * 2 ^ k) % 2 ^ 64 - 1) ≡ w % 2 ^ k
+low_bits_are w k h = ap (λ (x : ℕ). bit_and w (x - 1)) (one_shl k 64 (omega arith)) ∙ and_mask w k

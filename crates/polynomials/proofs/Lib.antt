@@ -1,6 +1,7 @@
 pub mod Digits
 pub mod FourWords
 pub mod Halves
+pub mod Results
 pub mod Stages
 pub mod Stored
 pub mod Sums

@@ -1,5 +1,5 @@
 -- The values of each way to make a polynomial: the laws of specs/Laws.antt.
-use Rattle.std.proofs.Common.{◌≡◌, ℕ, zero, suc, ◌*◌, ◌%◌, ◌^◌, ◌<◌, ◌≤◌, Bool, true, false, cond, not, ◌&&◌, ◌||◌, eqb, ◌⊎◌, sym, refl, ap, ◌∙◌, inl, inr, ⊎_elim, arith, pow_mono}
+use Rattle.std.proofs.Common.{◌≡◌, ℕ, zero, suc, ◌-◌, ◌*◌, ◌%◌, ◌^◌, ◌<◌, ◌≤◌, Bool, true, false, cond, not, ◌&&◌, ◌||◌, eqb, ◌⊎◌, sym, refl, ap, ◌∙◌, inl, inr, ⊎_elim, arith, pow_mono}
 use mathlib.Core.Bool.{and-true, and-false, and_comm}
 use lib.Bits.{bit_or, or_lt}
 use lib.Pow.{pow-lt}
@@ -114,17 +114,19 @@ past_last : (i s : ℕ) → 8 ≤ i → s < 256 → s < 2 ^ i
 past_last i s h l = let k : 2 ^ 8 ≤ 2 ^ i = pow_mono h in omega arith
 
 -- the terms of a variable, where there is one
-pub variable_is : (i m s : ℕ) → i ≡ suc m → m < 8 → eqb ((1 * 2 ^ m) % 2 ^ 8) s ≡ variable i s
+pub variable_is : (i s : ℕ) → 1 ≤ i → i ≤ 8 → eqb ((1 * 2 ^ (i - 1)) % 2 ^ 8) s ≡ variable i s
 unfolding variable
-variable_is i m s e h =
-    ap (λ (x : ℕ). eqb x s) (one_shl m 8 h) ∙ eqb_comm (2 ^ m) s ∙ ap (λ (k : ℕ). variable k s) (sym e)
+variable_is zero s low high = absurd (omega arith)
+variable_is (suc m) s low high =
+    let e : suc m - 1 ≡ m = omega arith in
+    ap (λ (k : ℕ). eqb ((1 * 2 ^ k) % 2 ^ 8) s) e ∙ ap (λ (x : ℕ). eqb x s) (one_shl m 8 (omega arith)) ∙ eqb_comm (2 ^ m) s
 
 -- and where there is none
-pub variable_none : (i s : ℕ) → (i ≡ 0) ⊎ (9 ≤ i) → s < 256 → false ≡ variable i s
+pub variable_none : (i s : ℕ) → (i ≡ 0) ⊎ (9 ≤ i) → s < 256 → variable i s ≡ false
 unfolding variable
 variable_none zero s out l = refl
 variable_none (suc i) s (inl e) l = absurd (omega arith)
-variable_none (suc i) s (inr h) l = let m : s < 2 ^ i = past_last i s (omega arith) l in sym (ne_eqb s (2 ^ i) (λ e. omega arith))
+variable_none (suc i) s (inr h) l = let m : s < 2 ^ i = past_last i s (omega arith) l in ne_eqb s (2 ^ i) (λ e. omega arith)
 
 -- the value of a variable is its bit in the vector
 pub value_variable : laws.ValueVariable
@@ -135,7 +137,7 @@ value_variable (suc i) v l =
     (λ (h : i < 8).
     in_cong 8 (λ s. eqb s (2 ^ i)) (λ s. eqb (2 ^ i) s) v (λ s k. eqb_comm s (2 ^ i)) ∙ value_term (2 ^ i) v (pow-lt h) ∙ lone i v h)
     (λ (h : 8 ≤ i).
-    in_cong 8 (variable (suc i)) (λ s. false) v (λ s k. sym (variable_none (suc i) s (inr (omega arith)) k))
+    in_cong 8 (variable (suc i)) (λ s. false) v (λ s k. variable_none (suc i) s (inr (omega arith)) k)
     ∙ in_nothing 8 v ∙ sym (bit_small i v (past_last i v h l)))
     (cases_lt i 8)
 
@@ -171,3 +173,7 @@ value_substitute R P v =
     ∙ ap (λ (x : Bool). R t && x) (value_over P 8 t v ∙ within_step P t v)
     ∙ and_comm (R t) (within 8 t (step P v)))
     ∙ (unfold value_in in refl)
+
+-- all the laws
+pub all_laws : laws.ValueOne × laws.ValueVariable × laws.ValueSum × laws.ValueProduct × laws.ValueSubstitute × laws.ValueValue × laws.Unique
+all_laws = (value_one, value_variable, value_sum, value_product, value_substitute, value_value, unique)

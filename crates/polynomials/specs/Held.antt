@@ -36,3 +36,10 @@ terms_of rs i = terms (slice_index_or rs i (record { bits = no_bits }))
 
 abbrev pub vectors_of : List VectorSet → ℕ → ℕ → Bool
 vectors_of ts i = vectors (slice_index_or ts i (record { bits = no_bits }))
+
+-- P holds of each word of x, that of y and that of z
+pub record EachWord (P : ℕ → ℕ → ℕ → Type 0) (x y z : Bits256) : Type 0 where
+  pub a : P x.a y.a z.a
+  pub b : P x.b y.b z.b
+  pub c : P x.c y.c z.c
+  pub d : P x.d y.d z.d

@@ -1,8 +1,11 @@
 // 256 bits in four words: bit s is bit s % 64 of word s / 64. What a residual and a set of vectors have in common.
-ghost use Rattle.std.specs.Prelude.{◌≡◌, ℕ, ◌<◌, ◌&&◌, ◌||◌, if◌then◌else◌, Decides, ◌==◌, nat_eq};
-ghost use Rattle.polynomials.specs.Held.{word_of, holds};
+ghost use Rattle.std.specs.Prelude.{◌≡◌, ℕ, ◌<◌, not, ◌&&◌, ◌||◌, if◌then◌else◌, nat_eq};
+ghost use Rattle.polynomials.specs.Held.{word_of, holds, EachWord};
 ghost use Rattle.polynomials.specs.Sets.{◌⊕◌};
 
+use std::ops::{BitAnd, BitOr, BitXor, Not};
+
+// Four fields and no array, so that each word stays in a register.
 #[derive(Clone, Copy, PartialEq, Eq)]
 pub struct Bits256 {
     pub a: u64,
@@ -26,6 +29,7 @@ impl Bits256 {
         d: u64::MAX,
     };
 
+    // Word q.
     fn word(self, q: u8) -> u64
         requires { q < 4 }
         ensures { result ≡ word_of self q }
@@ -38,79 +42,101 @@ impl Bits256 {
         }
     }
 
-    fn with_word(self, q: u8, x: u64) -> Bits256
+    // Word q is x, and the others are 0.
+    fn one_word(q: u8, x: u64) -> Bits256
         requires { q < 4 }
-        ensures { (j : ℕ) → word_of result j ≡ (if nat_eq q j then x else word_of self j) }
+        ensures { (j : ℕ) → word_of result j ≡ (if nat_eq q j then x else 0) }
     {
         match q {
-            0 => Bits256 { a: x, ..self },
-            1 => Bits256 { b: x, ..self },
-            2 => Bits256 { c: x, ..self },
-            _ => Bits256 { d: x, ..self },
+            0 => Bits256 {
+                a: x,
+                ..Bits256::NONE
+            },
+            1 => Bits256 {
+                b: x,
+                ..Bits256::NONE
+            },
+            2 => Bits256 {
+                c: x,
+                ..Bits256::NONE
+            },
+            _ => Bits256 {
+                d: x,
+                ..Bits256::NONE
+            },
         }
     }
 
+    // Bit s alone.
+    #[tactic(auto, using(crate::proofs::FourWords::single_held))]
+    pub(crate) fn single(s: u8) -> Bits256
+        ensures { (t : ℕ) → holds result t ≡ nat_eq s t }
+    {
+        Bits256::one_word(s / 64, 1 << (s % 64))
+    }
+
     // Whether bit s is set.
+    #[tactic(auto, using(crate::proofs::FourWords::has_held))]
     pub(crate) fn has(self, s: u8) -> bool
         ensures { result ≡ holds self s }
     {
         (self.word(s / 64) >> (s % 64)) & 1 == 1
     }
 
-    // The same with bit s turned.
-    pub(crate) fn flip(self, s: u8) -> Bits256
-        ensures { (t : ℕ) → holds result t ≡ (holds self t ⊕ nat_eq s t) }
-    {
-        let x = self.word(s / 64) ^ (1 << (s % 64));
-        self.with_word(s / 64, x)
-    }
-
-    // The same with bit s set.
-    pub(crate) fn with(self, s: u8) -> Bits256
-        ensures { (t : ℕ) → holds result t ≡ (holds self t || s == t) }
-    {
-        let x = self.word(s / 64) | (1 << (s % 64));
-        self.with_word(s / 64, x)
-    }
-
-    pub(crate) fn xor(self, other: Bits256) -> Bits256
-        ensures { (s : ℕ) → holds result s ≡ (holds self s ⊕ holds other s) }
+    // Word by word: what f gives of each pair.
+    fn zip_with<F: Fn(u64, u64) -> u64>(self, other: Bits256, f: F) -> Bits256
+        requires { F.IsAlwaysCallable f }
+        ensures { EachWord (F.post f) self other result }
     {
         Bits256 {
-            a: self.a ^ other.a,
-            b: self.b ^ other.b,
-            c: self.c ^ other.c,
-            d: self.d ^ other.d,
+            a: f(self.a, other.a),
+            b: f(self.b, other.b),
+            c: f(self.c, other.c),
+            d: f(self.d, other.d),
         }
     }
+}
 
-    pub(crate) fn and(self, other: Bits256) -> Bits256
-        ensures { (s : ℕ) → holds result s ≡ (holds self s && holds other s) }
-    {
-        Bits256 {
-            a: self.a & other.a,
-            b: self.b & other.b,
-            c: self.c & other.c,
-            d: self.d & other.d,
-        }
+impl BitAnd for Bits256 {
+    type Output = Bits256;
+
+    ghost bitand_gives = { λ x y z. (s : ℕ) → holds z s ≡ (holds x s && holds y s) };
+
+    #[tactic(auto, using(crate::proofs::FourWords::words_and))]
+    fn bitand(self, other: Bits256) -> Bits256 {
+        self.zip_with(other, |x, y| x & y)
     }
+}
 
-    pub(crate) fn or(self, other: Bits256) -> Bits256
-        ensures { (s : ℕ) → holds result s ≡ (holds self s || holds other s) }
-    {
-        Bits256 {
-            a: self.a | other.a,
-            b: self.b | other.b,
-            c: self.c | other.c,
-            d: self.d | other.d,
-        }
+impl BitOr for Bits256 {
+    type Output = Bits256;
+
+    ghost bitor_gives = { λ x y z. (s : ℕ) → holds z s ≡ (holds x s || holds y s) };
+
+    #[tactic(auto, using(crate::proofs::FourWords::words_or))]
+    fn bitor(self, other: Bits256) -> Bits256 {
+        self.zip_with(other, |x, y| x | y)
     }
+}
 
-    // Whether the two have the same bits, which is whether they are equal.
-    pub(crate) fn same(self, other: Bits256) -> bool
-        ensures equal { Decides result (self ≡ other) }
-        ensures bits { Decides result ((s : ℕ) → s < 256 → holds self s ≡ holds other s) }
-    {
-        self == other
+impl BitXor for Bits256 {
+    type Output = Bits256;
+
+    ghost bitxor_gives = { λ x y z. (s : ℕ) → holds z s ≡ (holds x s ⊕ holds y s) };
+
+    #[tactic(auto, using(crate::proofs::FourWords::words_xor))]
+    fn bitxor(self, other: Bits256) -> Bits256 {
+        self.zip_with(other, |x, y| x ^ y)
+    }
+}
+
+impl Not for Bits256 {
+    type Output = Bits256;
+
+    ghost not_gives = { λ x z. (s : ℕ) → s < 256 → holds z s ≡ not (holds x s) };
+
+    #[tactic(auto, using(crate::proofs::FourWords::all_held))]
+    fn not(self) -> Bits256 {
+        Bits256::ALL ^ self
     }
 }

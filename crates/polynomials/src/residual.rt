@@ -14,6 +14,7 @@ pub struct Residual {
 
 impl Residual {
     // The constant 0: no products.
+    #[tactic(auto, using(crate::proofs::FourWords::none_held))]
     pub fn zero() -> Residual
         ensures { (s : ℕ) → terms result s ≡ false }
     {
@@ -23,6 +24,7 @@ impl Residual {
     }
 
     // The constant 1: the product of no variables.
+    #[tactic(auto, using(crate::proofs::Results::one_is))]
     pub fn one() -> Residual
         ensures { (s : ℕ) → terms result s ≡ one_term s }
     {
@@ -30,14 +32,14 @@ impl Residual {
     }
 
     // Variable i, counted from 1. There are eight: any other number gives the constant 0.
+    #[tactic(auto, using(crate::proofs::Valued::variable_is, crate::proofs::Valued::variable_none, crate::proofs::Results::values_of_variable))]
     pub fn variable(i: u8) -> Residual
         ensures products { (s : ℕ) → s < 256 → terms result s ≡ alone i s }
         ensures values { (v : ℕ) → v < 256 → value (terms result) v ≡ in_set i v }
     {
-        if i == 0 || i > 8 {
-            Residual::zero()
-        } else {
-            Residual::zero().flip(1 << (i - 1))
+        match i {
+            1..=8 => Residual::zero().flip(1 << (i - 1)),
+            _ => Residual::zero(),
         }
     }
 
@@ -53,21 +55,23 @@ impl Residual {
         ensures { (t : ℕ) → terms result t ≡ (terms self t ⊕ nat_eq s t) }
     {
         Residual {
-            bits: self.bits.flip(s),
+            bits: self.bits ^ Bits256::single(s),
         }
     }
 
     // The sum: the products that one of the two has and the other has not.
+    #[tactic(auto, using(crate::proofs::Results::values_of_sum), unfolding(crate::specs::Polynomial::sum))]
     pub fn sum(self, other: Residual) -> Residual
         ensures products { (s : ℕ) → terms result s ≡ summed (terms self) (terms other) s }
         ensures values { (v : ℕ) → value (terms result) v ≡ (value (terms self) v ⊕ value (terms other) v) }
     {
         Residual {
-            bits: self.bits.xor(other.bits),
+            bits: self.bits ^ other.bits,
         }
     }
 
     // The product: both truth tables, joined by `and`.
+    #[tactic(auto, using(crate::proofs::Results::terms_of_product, crate::proofs::Results::values_of_product))]
     pub fn product(self, other: Residual) -> Residual
         ensures products { (s : ℕ) → s < 256 → terms result s ≡ multiplied (terms self) (terms other) s }
         ensures values { (v : ℕ) → value (terms result) v ≡ (value (terms self) v && value (terms other) v) }
@@ -82,7 +86,7 @@ impl Residual {
         ensures equal { Decides result (self ≡ other) }
         ensures values { Decides result ((v : ℕ) → v < 256 → value (terms self) v ≡ value (terms other) v) }
     {
-        self.bits.same(other.bits)
+        self == other
     }
 
     // The truth table: the assignments at which the value is 1.

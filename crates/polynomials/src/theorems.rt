@@ -6,13 +6,13 @@ use super::residual::Residual;
 use super::vectors::VectorSet;
 
 // The values of each way to make a polynomial, and that its values are no other polynomial's.
-pub fn laws() -> u8
+#[tactic(auto, using(crate::proofs::Valued::all_laws))]
+pub fn laws()
     ensures { ValueOne × ValueVariable × ValueSum × ValueProduct × ValueSubstitute × ValueValue × Unique }
-{
-    0
-}
+{}
 
 // The products of the values are the products.
+#[tactic(auto, using(crate::proofs::Results::equal_by_values))]
 pub fn back_to_products(r: Residual) -> Residual
     ensures { result ≡ r }
 {
@@ -20,6 +20,7 @@ pub fn back_to_products(r: Residual) -> Residual
 }
 
 // The values of the products are the values.
+#[tactic(auto, using(crate::proofs::Results::equal_sets))]
 pub fn back_to_values(t: VectorSet) -> VectorSet
     ensures { result ≡ t }
 {

@@ -14,7 +14,7 @@ fn spread(x: u64, mask: u64, by: u32) -> u64
     x ^ ((x & mask) << by)
 }
 
-// The six lowest variables: a stage for each, whose mask has the places of the sets without it.
+// The six lowest variables: a stage for each, whose mask has the places of the sets without it. Each mask stands here once.
 fn word_values(x: u64) -> u64
     ensures { (v : ℕ) → v < 64 → bit_at v result ≡ value_in 6 (λ s. bit_at s x) v }
 {
@@ -28,6 +28,7 @@ fn word_values(x: u64) -> u64
 
 impl Bits256 {
     // The two highest variables say which word.
+    #[tactic(auto, using(crate::proofs::WordByWord::transformed_is))]
     pub(crate) fn transformed(self) -> Bits256
         ensures { (v : ℕ) → v < 256 → holds result v ≡ value (holds self) v }
     {

@@ -14,6 +14,7 @@ pub struct VectorSet {
 }
 
 impl VectorSet {
+    #[tactic(auto, using(crate::proofs::FourWords::none_held))]
     pub fn empty() -> VectorSet
         ensures { (v : ℕ) → vectors result v ≡ false }
     {
@@ -23,10 +24,18 @@ impl VectorSet {
     }
 
     // The set of all 256 vectors.
+    #[tactic(auto, using(crate::proofs::FourWords::all_held))]
     pub fn full() -> VectorSet
         ensures { (v : ℕ) → v < 256 → vectors result v ≡ true }
     {
         VectorSet { bits: Bits256::ALL }
+    }
+
+    // Whether it has no vector.
+    fn is_empty(self) -> bool
+        ensures { Decides result ((v : ℕ) → vectors self v ≡ false) }
+    {
+        self.bits == Bits256::NONE
     }
 
     pub fn has(self, v: u8) -> bool
@@ -38,22 +47,20 @@ impl VectorSet {
     pub fn add(&mut self, v: u8)
         ensures { (w : ℕ) → vectors self.new w ≡ (vectors self.old w || v == w) }
     {
-        self.bits = self.bits.with(v);
+        self.bits = self.bits | Bits256::single(v);
     }
 
     pub fn complement(self) -> VectorSet
         ensures { (v : ℕ) → v < 256 → vectors result v ≡ not (vectors self v) }
     {
-        VectorSet {
-            bits: Bits256::ALL.xor(self.bits),
-        }
+        VectorSet { bits: !self.bits }
     }
 
     pub fn union(self, other: VectorSet) -> VectorSet
         ensures { (v : ℕ) → vectors result v ≡ (vectors self v || vectors other v) }
     {
         VectorSet {
-            bits: self.bits.or(other.bits),
+            bits: self.bits | other.bits,
         }
     }
 
@@ -61,7 +68,7 @@ impl VectorSet {
         ensures { (v : ℕ) → vectors result v ≡ (vectors self v && vectors other v) }
     {
         VectorSet {
-            bits: self.bits.and(other.bits),
+            bits: self.bits & other.bits,
         }
     }
 
@@ -70,7 +77,7 @@ impl VectorSet {
         ensures { (v : ℕ) → vectors result v ≡ (vectors self v ⊕ vectors other v) }
     {
         VectorSet {
-            bits: self.bits.xor(other.bits),
+            bits: self.bits ^ other.bits,
         }
     }
 
@@ -78,17 +85,19 @@ impl VectorSet {
     pub fn within(self, other: VectorSet) -> bool
         ensures { Decides result ((v : ℕ) → vectors self v ≡ true → vectors other v ≡ true) }
     {
-        self.bits.and(other.bits).same(self.bits)
+        self.intersection(other) == self
     }
 
     // Whether no vector is in `other` too.
+    #[tactic(auto, using(crate::proofs::Results::disjoint_is))]
     pub fn disjoint(self, other: VectorSet) -> bool
         ensures { Decides result ((v : ℕ) → vectors self v ≡ true → vectors other v ≡ false) }
     {
-        self.bits.and(other.bits).same(Bits256::NONE)
+        self.intersection(other).is_empty()
     }
 
     // The one polynomial whose truth table this is.
+    #[tactic(auto, using(crate::proofs::Results::values_back, crate::proofs::Results::only_one))]
     pub fn to_products(self) -> Residual
         ensures values { (v : ℕ) → v < 256 → value (terms result) v ≡ vectors self v }
         ensures only { (P : Polynomial) → ((v : ℕ) → v < 256 → value P v ≡ vectors self v) → (s : ℕ) → s < 256 → terms result s ≡ P s }

@@ -1,7 +1,7 @@
 -- How many numbers are in a set. Assumes nothing.
 use Rattle.std.proofs.Common.{◌≡◌, ℕ, zero, suc, ◌+◌, ◌<◌, ◌≤◌, Bool, true, false, cond, refl, ap, ◌∙◌, ⊎_elim, arith}
 use Rattle.std.proofs.lemmas.Bool.{cases_eq, cond_both}
-use Rattle.reachable.specs.Found.{size}
+use Rattle.reachable.specs.Listed.{size}
 
 pub size_none : (f : ℕ → Bool) → ((j : ℕ) → f j ≡ false) → (n : ℕ) → size f n ≡ 0
 unfolding size

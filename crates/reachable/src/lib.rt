@@ -13,22 +13,20 @@ pub use machine::Machine;
 use polynomials::VectorSet;
 
 // The vectors that the machine can come to, and no others.
+#[tactic(auto, using(crate::proofs::Search::progress_all))]
 pub fn reachable<M: Machine>(m: &M) -> VectorSet
     ensures { (v : ℕ) → (vectors result v ≡ true) ↔ Attainable (M.moves m.now) v }
 {
     let mut found = Found::none();
     found.visit(m.start());
-    let mut done = 0;
-    while done < found.count {
-        let v = found.order[done];
+    while let Some(v) = found.next() {
         found.expand(m, v);
-        done += 1;
     }
     found.seen
 }
 
 // Whether the truth table has the value `kept` whatever comes, of any machine that can come to the vectors in `reached` and
-// to no others.
+// to no others. `kept` is a truth value, and so a bool.
 pub fn for_good(table: VectorSet, kept: bool, reached: VectorSet) -> bool
     ensures { (m : Moves) → Exact m (vectors reached) → Decides result (ForGood m (vectors table) kept) }
 {

@@ -27,8 +27,8 @@ returns t c v l =
     let m : ℕ = c.args.n - 1 in
     let f : ℕ → Bool = λ i. vectors_of c.args.tables.now i v in
     let u : ℕ = set_below 8 f in
-    c.symmetric_difference.ensures v
+    c.branch-low.ensures v
     ∙ ap₂ ◌⊕◌
     (c.in_word-low.ensures v l ∙ ap (λ (x : ℕ). value_in m (λ s. bit_at s x) u) c.low_bits.ensures)
-    (c.intersection.ensures v ∙ ap₂ ◌&&◌ (sym (bit_set 8 m f (omega arith))) (c.in_word-high.ensures v l))
+    (ap₂ ◌&&◌ (sym (bit_set 8 m f (omega arith))) (c.in_word-high.ensures v l))
     ∙ sym (word_halves c.args.n m c.power-half.result c.args.w u (omega arith) (omega arith))

@@ -16,14 +16,10 @@ returns c P is =
     let u : ℕ = set_below 8 f in
     let m6 : f 6 ≡ bit_at 6 u = sym (bit_set 8 6 f (omega arith)) in
     let m7 : f 7 ≡ bit_at 7 u = sym (bit_set 8 7 f (omega arith)) in
-    sym (c.symmetric_difference.ensures v
+    sym (c.branch-low-2.ensures v
     ∙ ap₂ ◌⊕◌
-    (c.symmetric_difference-low.ensures v
-    ∙ ap₂ ◌⊕◌ (c.in_word-a.ensures v l) (c.intersection.ensures v ∙ ap₂ ◌&&◌ m6 (c.in_word-b.ensures v l)))
-    (c.intersection-3.ensures v
-    ∙ ap₂ ◌&&◌ m7
-    (c.symmetric_difference-high.ensures v
-    ∙ ap₂ ◌⊕◌ (c.in_word-c.ensures v l) (c.intersection-2.ensures v ∙ ap₂ ◌&&◌ m6 (c.in_word-d.ensures v l))))
+    (c.branch-low.ensures v ∙ ap₂ ◌⊕◌ (c.in_word-a.ensures v l) (ap₂ ◌&&◌ m6 (c.in_word-b.ensures v l)))
+    (ap₂ ◌&&◌ m7 (c.branch-high.ensures v ∙ ap₂ ◌⊕◌ (c.in_word-c.ensures v l) (ap₂ ◌&&◌ m6 (c.in_word-d.ensures v l))))
     ∙ sym (four_words c.args.self.bits u)
     ∙ ap (value R) (set_cong 8 f (λ i. value (P i) v) (λ i h. is i v h l))
     ∙ sym (value_substitute R P v)))
