@@ -12,10 +12,7 @@ use std::io::{BufRead, BufReader};
 
 // The first line of a report.
 fn first_line(report: &str) -> &str {
-    match report.split_once('\n') {
-        Some((line, _)) => line,
-        None => report,
-    }
+    report.split_once('\n').map_or(report, |(line, _)| line)
 }
 
 fn show(rt: &HostRuntime, case: &str) -> anyhow::Result<()> {
@@ -23,7 +20,7 @@ fn show(rt: &HostRuntime, case: &str) -> anyhow::Result<()> {
         rt.println(case)?;
         return Ok(());
     }
-    let file = expanded(rt.alloc(), case.as_bytes())?;
+    let file = expanded(rt.alloc(), case)?;
     let report = files::report(rt.alloc(), file.as_slice())?;
     let line = first_line(report.as_str());
     println!(rt; "{line}\t<- {case}")?;

@@ -4,26 +4,18 @@ ghost use Rattle.std.specs.Prelude.{◌≤◌, length};
 use std::alloc::{AllocError, Global};
 
 // What stands before the first `stop`, and what behind it.
-fn parted(text: &[u8], stop: u8) -> (&[u8], &[u8])
+fn parted(text: &str, stop: char) -> (&str, &str)
     ensures { length result.1.now ≤ length text.now }
 {
-    for (i, b) in text.iter().enumerate() {
-        if *b == stop {
-            return (&text[0..i], &text[i + 1..]);
-        }
-    }
-    (text, &[])
+    text.split_once(stop).unwrap_or((text, ""))
 }
 
 // The number that these digits are.
-fn number(digits: &[u8]) -> usize {
-    let mut n: usize = 0;
-    for d in digits {
-        n = n
-            .saturating_mul(10)
-            .saturating_add(d.saturating_sub(b'0') as usize);
-    }
-    n
+fn number(digits: &str) -> usize {
+    digits.bytes().fold(0, |n: usize, d| {
+        n.saturating_mul(10)
+            .saturating_add(d.saturating_sub(b'0') as usize)
+    })
 }
 
 // The byte that one of shorthand stands for.
@@ -35,14 +27,11 @@ fn plain(b: u8) -> u8 {
     }
 }
 
-fn push_piece(out: &mut Vec<u8>, piece: &[u8]) -> Result<(), AllocError> {
-    for b in piece {
-        out.push(plain(*b))?;
-    }
-    Ok(())
+fn push_piece(out: &mut Vec<u8>, piece: &str) -> Result<(), AllocError> {
+    out.extend(piece.bytes().map(plain))
 }
 
-fn push_times(out: &mut Vec<u8>, times: usize, piece: &[u8]) -> Result<(), AllocError> {
+fn push_times(out: &mut Vec<u8>, times: usize, piece: &str) -> Result<(), AllocError> {
     for _ in 0..times {
         push_piece(out, piece)?;
     }
@@ -50,19 +39,16 @@ fn push_times(out: &mut Vec<u8>, times: usize, piece: &[u8]) -> Result<(), Alloc
 }
 
 // The file that a line of shorthand stands for.
-pub(crate) fn expanded(heap: Global, case: &[u8]) -> Result<Vec<u8>, AllocError> {
+pub(crate) fn expanded(heap: Global, case: &str) -> Result<Vec<u8>, AllocError> {
     let mut out = Vec::new(heap);
     let mut rest = case;
-    while let [b, after @ ..] = rest {
-        rest = after;
-        if *b == b'{' {
-            let (digits, more) = parted(after, b':');
-            let (piece, behind) = parted(more, b'}');
-            push_times(&mut out, number(digits), piece)?;
-            rest = behind;
-        } else {
-            out.push(plain(*b))?;
-        }
+    while let Some((front, times)) = rest.split_once('{') {
+        let (digits, more) = parted(times, ':');
+        let (piece, behind) = parted(more, '}');
+        push_piece(&mut out, front)?;
+        push_times(&mut out, number(digits), piece)?;
+        rest = behind;
     }
+    push_piece(&mut out, rest)?;
     Ok(out)
 }

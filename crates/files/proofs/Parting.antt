@@ -1,41 +1,43 @@
--- How many bytes stand before a stop, one byte at a time. Assumes nothing.
-use Rattle.std.proofs.Common.{◌≡◌, ℕ, suc, ◌+◌, ◌-◌, ◌<◌, ◌≤◌, true, false, cond, eqb, List, [], ◌∷◌, length, get_or, take, drop, ap, ◌∙◌, add-one, arith, length-drop, drop-cons, drop-drop}
-use Rattle.std.proofs.lemmas.List.{drop_all, take_all}
-use Rattle.std.proofs.lemmas.Bool.{cond-true, cond-false, cond_both}
-use Rattle.files.specs.Lines.{Begins, before}
+-- Where a text has its first stop. Assumes nothing.
+use Rattle.std.proofs.Common.{◌≡◌, ◌≢◌, ℕ, suc, ◌+◌, ◌-◌, ◌<◌, ◌≤◌, Bool, true, false, cond, ◌||◌, eqb, List, [], ◌∷◌, ◌++◌, length, take, drop, Option, Some, MatchOption, sym, refl, ap, ap₂, ◌∙◌, eq-eqb, ne_eqb, arith, length-drop}
+use Rattle.std.specs.Bool.{MatchBool}
+use Rattle.std.specs.List.{AllWithin, HoldsAt, list_any}
+use Rattle.std.specs.Option.{unwrap_or}
+use Rattle.std.proofs.lemmas.Iterator.{index_from_first}
+use Rattle.std.proofs.lemmas.List.{drop_more, take_all, take-append-drop}
+use Rattle.std.proofs.lemmas.Bool.{cond-true, cond-false}
+use Rattle.files.specs.Lines.{Parted, before}
 
-module _ (stop : ℕ) (s : List ℕ) (i : ℕ) where
-  before_at : i < length s → before stop (drop i s) ≡ cond (eqb (get_or s i 0) stop) 0 (suc (before stop (drop (suc i) s)))
-  before_at low = ap (before stop) (drop-cons s i 0 low)
+-- the index of the first stop, if there is one
+abbrev pub IsFirst : ℕ → List ℕ → Option ℕ → Type 0
+IsFirst stop s r = MatchOption r (AllWithin (λ b. b ≢ stop) s 0 (length s)) (λ i. (i < length s) × HoldsAt (λ b. b ≡ stop) s i × AllWithin (λ b. b ≢ stop) s 0 i)
 
-  pub before_more : i < length s → eqb (get_or s i 0) stop ≡ false → i + before stop (drop i s) ≡ i + 1 + before stop (drop (i + 1) s)
-  before_more low e =
-      let b = before_at low ∙ cond-false (eqb (get_or s i 0) stop) 0 (suc (before stop (drop (suc i) s))) e in
-      rw add-one (omega (arith, b))
+pub counted : (stop : ℕ) (s : List ℕ) (r : Option ℕ) → IsFirst stop s r → before stop s ≡ unwrap_or r (length s)
+counted stop s r first =
+    index_from_first (before stop) (λ b. b ≡ stop) (λ b. b ≢ stop) refl
+    (λ b s e. cond-true (eqb b stop) 0 (suc (before stop s)) (eq-eqb b stop e))
+    (λ b s e. let k = cond-false (eqb b stop) 0 (suc (before stop s)) (ne_eqb b stop e) in omega arith)
+    s r first
 
-  pub before_stop : i < length s → eqb (get_or s i 0) stop ≡ true → before stop (drop i s) ≡ 0
-  before_stop low e = before_at low ∙ cond-true (eqb (get_or s i 0) stop) 0 (suc (before stop (drop (suc i) s))) e
-
-  pub before_end : length s ≤ i → before stop (drop i s) ≡ 0
-  before_end h = ap (before stop) (drop_all i s h)
-
-pub before_le : (stop : ℕ) (s : List ℕ) → before stop s ≤ length s
-before_le stop [] = omega arith
-before_le stop (b ∷ s) =
-    let h = before_le stop s in
-    cond_both (eqb b stop) 0 (suc (before stop s)) (λ n. n ≤ suc (length s)) (λ _. omega arith) (λ _. omega arith)
-
--- a line and what is behind its end, as the code cuts them
-pub begins : (text line behind : List ℕ) (n : ℕ) → n ≡ before 10 text → line ≡ take n text → behind ≡ drop n text → 1 ≤ length behind → Begins text line (take (length behind - 1) (drop 1 behind))
-begins text line behind n is front back some =
-    let long = length-drop n text in
-    let left = ap length back in
+-- the two parts, as the code cuts them
+pub parted : (stop : ℕ) (s : List ℕ) (i : ℕ) → IsFirst stop s (Some i) → Parted stop s (take i s) (take (length s - (i + 1)) (drop (i + 1) s))
+parted stop s i first =
+    let at = sym (counted stop s (Some i) first) in
+    let rest = take_all (length s - (i + 1)) (drop (i + 1) s) (omega (arith, length-drop (i + 1) s)) in
+    let low = first.0 in
     record {
       ended = omega arith;
-      line_is = front ∙ ap (λ k. take k text) is;
-      rest_is = take_all (length behind - 1) (drop 1 behind) (omega (arith, length-drop 1 behind)) ∙ ap (drop 1) back ∙ drop-drop 1 n text ∙ ap (λ k. drop (k + 1) text) is;
+      front_is = ap (λ k. take k s) at;
+      back_is = rest ∙ ap (λ k. drop (k + 1) s) at;
+      whole = sym (take-append-drop i s) ∙ ap (λ l. take i s ++ l) (drop_more s i 0 low ∙ ap₂ (λ b l. b ∷ l) (first.1 0) (sym rest));
     }
 
--- a line takes at least its end
-pub begins_shorter : {text line rest : List ℕ} → Begins text line rest → length rest < length text
-begins_shorter {text} b = let e = b.ended in omega (arith, ap length b.rest_is, length-drop (before 10 text + 1) text)
+stopped_at : (b any : Bool) (n m : ℕ) → MatchBool any (n < m) (m ≤ n) → MatchBool (b || any) (cond b 0 (suc n) < suc m) (suc m ≤ cond b 0 (suc n))
+stopped_at true any n m e = omega arith
+stopped_at false true n m e = omega arith
+stopped_at false false n m e = omega arith
+
+-- whether a text has a stop
+pub contained : (stop : ℕ) (s : List ℕ) → MatchBool (list_any (λ b. eqb b stop) s) (before stop s < length s) (length s ≤ before stop s)
+contained stop [] = omega arith
+contained stop (b ∷ s) = stopped_at (eqb b stop) _ (before stop s) (length s) (contained stop s)

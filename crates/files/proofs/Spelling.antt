@@ -1,12 +1,13 @@
 -- Numbers in decimals, and two of them that a tab parts. Assumes nothing.
-use Rattle.std.proofs.Common.{◌≡◌, ℕ, suc, ◌+◌, ◌-◌, ◌<◌, ◌≤◌, Bool, true, false, cond, ◌&&◌, eqb, ltb, List, [], ◌∷◌, ◌++◌, length, get_or, take, drop, Ok, decimal, Result, sym, refl, ap, ◌∙◌, subst, ap₂, ⊎_elim, arith}
+use Rattle.std.proofs.Common.{◌≡◌, ℕ, suc, ◌+◌, ◌<◌, ◌≤◌, false, ◌&&◌, eqb, ltb, List, [], ◌∷◌, ◌++◌, length, get_or, take, drop, Ok, decimal, Some, None, Result, Err, MatchResult, sym, refl, ap, ◌∙◌, subst, ap₂, ⊎_elim, arith}
 use Rattle.std.specs.Str.Parse.{AllDigits, digits_value, ParsesUnsigned}
-use Rattle.std.proofs.lemmas.Fmt.{decimal-digits_value, digits_decimal, first_decimal, length-decimal-le}
-use Rattle.std.proofs.lemmas.List.{drop_at, drop-drop, length-append, length-drop, take_all, take_at}
+use Rattle.std.proofs.lemmas.Fmt.{decimal-digits_value, digits_decimal, first_decimal, length-decimal-le, parse-decimal}
+use Rattle.std.proofs.lemmas.List.{drop_at, drop-drop, length-append, take_at}
 use Rattle.std.proofs.lemmas.Str.Parse.{IsNumeralModel, digit_from_value, numerals_by_value, parse_plain, tells_digits}
 use Rattle.std.proofs.lemmas.Result.{OkIff-at_ok}
-use Rattle.std.proofs.lemmas.Bool.{and_cases, and_left, and_right, cases_lt, cond-false, eqb-false, eqb-true, le-ltb, ltb-false, ne_eqb, or_from, or_parts}
-use Rattle.files.specs.Event.{spoiled}
+use Rattle.std.proofs.lemmas.Bool.{and_cases, and_left, and_right, cases_lt, cond-false, eqb-false, le-ltb, ltb-false, ne_eqb, or_from, or_parts}
+use Rattle.std.specs.Result.{result_ok}
+use Rattle.files.specs.Event.{ReadsByte, spoiled}
 use Rattle.files.specs.Lines.{before}
 
 own : IsNumeralModel (AllDigits 10) (digits_value 10)
@@ -45,6 +46,23 @@ plain_read t r x fine reads is =
     let back = decimal-digits_value own t k.0.0 k.0.1 (alone t fine) (omega arith) in
     (omega (arith, k.1), sym back ∙ ap decimal (sym k.1))
 
+-- what holds of a result that `ok` takes, and of one that it drops
+module _ {A E : Type 0} (P : A → Type 0) (Q : E → Type 0) where
+  pub taken : (r : Result A E) (x : A) → MatchResult r P Q → result_ok r ≡ Some x → P x
+  taken (Ok y) x h e = let k : y ≡ x = cc in subst P k h
+  taken (Err f) x h e = absurd cc
+
+  pub dropped : (r : Result A E) → MatchResult r P Q → result_ok r ≡ None → (f : E) × Q f
+  dropped (Ok y) h e = absurd cc
+  dropped (Err f) h e = (f, h)
+
+-- what is read of it is the number that it writes
+pub plain_byte : {E : Type 0} (t : List ℕ) (r : Result ℕ E) → spoiled t ≡ false → ParsesUnsigned 8 10 t r → ReadsByte t (result_ok r)
+plain_byte {E} t (Ok x) fine reads = plain_read {E = E} t (Ok x) x fine reads refl
+plain_byte {E} t (Err f) fine reads = λ n small e.
+    let ok = parse-decimal {E = E} 8 n t (Err f) (omega arith) (omega arith) e reads in
+    cc
+
 before_tab : (xs ys : List ℕ) → AllDigits 10 xs → before 9 (xs ++ (9 ∷ ys)) ≡ length xs
 before_tab [] ys d = refl
 before_tab (c ∷ cs) ys d =
@@ -57,24 +75,3 @@ state_parts t l a small e =
     let k = ap (before 9) e ∙ before_tab (decimal l) (decimal a) (digits_decimal own l (omega arith)) in
     let behind = ap₂ drop k e ∙ drop_at (decimal l) (9 ∷ decimal a) (length (decimal l)) refl in
     (omega (arith, k, ap length e, length-append (decimal l) (9 ∷ decimal a)), ap₂ take k e ∙ take_at (decimal l) (9 ∷ decimal a) (length (decimal l)) refl, sym (drop-drop 1 (before 9 t) t) ∙ ap (drop 1) behind)
-
--- one byte more before the tab
-longer : (c k : ℕ) (cs : List ℕ) → cs ≡ take k cs ++ (9 ∷ drop (k + 1) cs) → c ∷ cs ≡ take (suc k) (c ∷ cs) ++ (9 ∷ drop (suc k + 1) (c ∷ cs))
-longer c k cs e =
-    let next : suc (k + 1) ≡ suc k + 1 = omega arith in
-    ap (λ l. c ∷ l) e ∙ ap (λ j. c ∷ (take k cs ++ (9 ∷ drop j (c ∷ cs)))) next
-
-split_at : (c : ℕ) (cs : List ℕ) (b : Bool) → eqb c 9 ≡ b → (b ≡ false → cs ≡ take (before 9 cs) cs ++ (9 ∷ drop (before 9 cs + 1) cs)) → c ∷ cs ≡ take (cond b 0 (suc (before 9 cs))) (c ∷ cs) ++ (9 ∷ drop (cond b 0 (suc (before 9 cs)) + 1) (c ∷ cs))
-split_at c cs true e rest = ap (λ x. x ∷ cs) (eqb-true c 9 e)
-split_at c cs false e rest = longer c (before 9 cs) cs (rest refl)
-
--- a text is what stands before its tab, the tab, and what stands behind
-pub split_tab : (t : List ℕ) → before 9 t < length t → t ≡ take (before 9 t) t ++ (9 ∷ drop (before 9 t + 1) t)
-split_tab [] h = absurd (omega arith)
-split_tab (c ∷ cs) h =
-    split_at c cs (eqb c 9) refl (λ e. split_tab cs (omega (arith, cond-false (eqb c 9) 0 (suc (before 9 cs)) e)))
-
--- what stands behind the tab, as the code cuts it
-pub behind_tab : (t behind : List ℕ) (n : ℕ) → n ≡ before 9 t → behind ≡ drop n t → take (length behind - 1) (drop 1 behind) ≡ drop (before 9 t + 1) t
-behind_tab t behind n is back =
-    take_all (length behind - 1) (drop 1 behind) (omega (arith, length-drop 1 behind)) ∙ ap (drop 1) back ∙ drop-drop 1 n t ∙ ap (λ k. drop (k + 1) t) is

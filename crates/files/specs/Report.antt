@@ -1,5 +1,6 @@
 -- A report as text. Assumes nothing.
 use Rattle.std.specs.Prelude.{ℕ, List, [], ◌∷◌, ◌++◌, codes, decimal}
+use Rattle.std.specs.List.{flat_map}
 use Rattle.claims.specs.declared.claim.Claim.{Claim}
 use Rattle.claims.specs.declared.claim.Sign.{Sign}
 use Rattle.claims.specs.declared.claim.Sign.TheVariants.{Holds, Fails}
@@ -32,9 +33,8 @@ abbrev pub claim_line : Claim → List ℕ
 claim_line c =
     codes "claim" ++ (tabbed c.place ++ (tabbed c.node ++ (tabbed (sign_number c.sign) ++ (tabbed c.first ++ (tabbed c.second ++ 10 ∷ [])))))
 
-unfoldable pub claim_lines : List Claim → List ℕ
-claim_lines [] = []
-claim_lines (c ∷ cs) = claim_line c ++ claim_lines cs
+abbrev pub claim_lines : List Claim → List ℕ
+claim_lines = flat_map claim_line
 
 -- THE REPORT: the answer's line, and a line for each claim
 abbrev pub text_of : Answer → List Claim → List ℕ

@@ -1,12 +1,11 @@
-// A report as text.
-ghost use Rattle.std.specs.Prelude.{◌≡◌, ◌++◌, IfOk, string_bytes, OnOk};
-ghost use Rattle.files.specs.Report.{claim_line, sign_number, text_of};
+// A claim as it is printed.
+ghost use Rattle.std.specs.Prelude.{◌≡◌, Some};
+ghost use Rattle.files.specs.Report.{claim_line, sign_number};
 
-use crate::answer::Report;
 use claims::{Claim, Sign};
-use std::alloc::{AllocError, Global};
+use std::fmt;
 
-// The number of a sign in print.
+// The number of a sign in print. No `From`: neither of its types would be ours.
 fn sign_number(sign: Sign) -> u8
     ensures { result ≡ sign_number sign }
 {
@@ -16,34 +15,22 @@ fn sign_number(sign: Sign) -> u8
     }
 }
 
-fn claim_line(heap: Global, claim: &Claim) -> Result<String, AllocError>
-    ensures { IfOk result (λ t. string_bytes t ≡ claim_line claim.now) }
-{
-    let place = claim.place;
-    let node = claim.node;
-    let sign = sign_number(claim.sign);
-    let first = claim.first;
-    let second = claim.second;
-    format!(in heap; "claim\t{place}\t{node}\t{sign}\t{first}\t{second}\n")
-}
+// The line of a report that a claim takes.
+#[derive(Clone, Copy)]
+pub(crate) struct ClaimLine(pub(crate) Claim);
 
-// Writes a claim's line behind the text.
-fn push_claim(heap: Global, text: &mut String, claim: &Claim) -> Result<(), AllocError>
-    ensures { OnOk result (string_bytes text.new ≡ string_bytes text.old ++ claim_line claim.now) }
-{
-    let line = claim_line(heap, claim)?;
-    text.push_str(line.as_str())
-}
+impl fmt::Display for ClaimLine {
+    ghost output = { λ line. Some (claim_line line.0) };
 
-// The report as it is printed.
-pub(crate) fn text_of(heap: Global, report: &Report) -> Result<String, AllocError>
-    ensures { IfOk result (λ t. string_bytes t ≡ text_of report.now.answer report.now.claims.items) }
-{
-    let answer = report.answer;
-    let mut text = format!(in heap; "{answer}")?;
-    let claims = report.claims.as_slice();
-    for i in 0..claims.len() {
-        push_claim(heap, &mut text, &claims[i])?;
+    fn fmt<W: fmt::Write>(&self, f: &mut fmt::Formatter<W>) -> fmt::Result {
+        let Claim {
+            place,
+            node,
+            sign,
+            first,
+            second,
+        } = self.0;
+        let sign = sign_number(sign);
+        write!(f, "claim\t{place}\t{node}\t{sign}\t{first}\t{second}\n")
     }
-    Ok(text)
 }

@@ -8,11 +8,7 @@ use std::str::from_utf8;
 fn is_spoiled(text: &[u8]) -> bool
     ensures { result ≡ spoiled text.now }
 {
-    match text {
-        [b'+', ..] => true,
-        [b'0', _, ..] => true,
-        _ => false,
-    }
+    matches!(text, [b'+', ..] | [b'0', _, ..])
 }
 
 // The number below 256 that a text is, in decimals with no digit too many.
@@ -22,11 +18,5 @@ pub(crate) fn byte(text: &[u8]) -> Option<u8>
     if is_spoiled(text) {
         return None;
     }
-    let Ok(digits) = from_utf8(text) else {
-        return None;
-    };
-    match digits.parse::<u8>() {
-        Ok(n) => Some(n),
-        Err(_) => None,
-    }
+    from_utf8(text).ok()?.parse().ok()
 }

@@ -1,8 +1,9 @@
-// An answer as it is printed.
+// An answer and a report as they are printed.
 ghost use Rattle.std.specs.Prelude.{Some};
-ghost use Rattle.files.specs.Report.{report_of};
+ghost use Rattle.files.specs.Report.{report_of, text_of};
 
-use crate::answer::Answer;
+use crate::answer::{Answer, Report};
+use crate::claim_lines::ClaimLine;
 use std::fmt;
 use verdicts::ThreeWay;
 
@@ -18,9 +19,23 @@ impl fmt::Display for Answer {
                 let number = fault.number();
                 let layer = fault.layer().number();
                 let place = fault.place();
-                let at = *line;
-                write!(f, "fault\t{number}\t{layer}\t{place}\t{at}\n")
+                write!(f, "fault\t{number}\t{layer}\t{place}\t{line}\n")
             }
         }
+    }
+}
+
+// The answer's line, and a line for each claim.
+impl fmt::Display for Report {
+    ghost output = { λ r. Some (text_of r.answer r.claims.items) };
+
+    fn fmt<W: fmt::Write>(&self, f: &mut fmt::Formatter<W>) -> fmt::Result {
+        let answer = self.answer;
+        write!(f, "{answer}")?;
+        for claim in &self.claims {
+            let line = ClaimLine(*claim);
+            write!(f, "{line}")?;
+        }
+        Ok(())
     }
 }

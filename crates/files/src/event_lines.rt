@@ -6,15 +6,11 @@ use crate::logged::Logged;
 use crate::stop::Stop;
 use rules::Fault;
 use std::alloc::Global;
-
-// The most events of a record.
-const EVENTS: usize = 4095;
+use verdicts::MOST_EVENTS;
 
 // The code of one event line.
 fn event<R: Logged>(reading: &R, line: &[u8]) -> Result<u32, Fault> {
-    let [b'e', b'v', b'e', b'n', b't', b'\t', text @ ..] = line else {
-        return Err(Fault::OutOfForm);
-    };
+    let text = line.strip_prefix(b"event\t").ok_or(Fault::OutOfForm)?;
     reading.code(text).ok_or(Fault::OutOfForm)
 }
 
@@ -27,9 +23,9 @@ pub(crate) fn events<R: Logged>(
     ensures { IfOk result (λ v. vec_len v ≤ 4095) }
 {
     let mut trace = Vec::new(heap);
-    while lines.more() {
-        let code = event(reading, lines.next_line()?)?;
-        if trace.len() >= EVENTS {
+    for line in lines {
+        let code = event(reading, line?)?;
+        if trace.len() >= MOST_EVENTS {
             return Err(Stop::Fault(Fault::ManyEvents));
         }
         trace.push(code)?;

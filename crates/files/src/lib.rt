@@ -9,8 +9,9 @@ mod event_lines;
 mod header;
 mod judgement;
 mod lines;
+mod log;
 mod logged;
 mod stop;
 
 pub use answer::{Answer, Report};
-pub use judgement::{judge, report};
+pub use judgement::{MOST_BYTES, judge, report};

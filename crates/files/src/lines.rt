@@ -1,22 +1,18 @@
 // The lines of a file, and the fields of a line.
-ghost use Rattle.std.specs.Prelude.{◌≡◌, ◌≤◌, length, MatchResult};
-ghost use Rattle.files.specs.Lines.{Begins, before};
+ghost use Rattle.std.specs.Prelude.{◌≡◌, ◌≤◌, [], length, MatchOption, MatchResult};
+ghost use Rattle.std.specs.Iterator.{at_most};
+ghost use Rattle.files.specs.Lines.{Begins, Parted, before};
 ghost use Rattle.rules.specs.declared.fault.Fault.TheVariants.{OutOfForm};
 
 use rules::Fault;
 use std::alloc::{AllocError, Global};
 
-// How many bytes stand before the first `stop`, or how many there are.
-pub(crate) fn until(text: &[u8], stop: u8) -> usize
-    ensures value { result ≡ before stop text.now }
-    ensures within { result ≤ length text.now }
+// What stands before the first `stop`, and what behind it. The library has this for text, and not for bytes.
+pub(crate) fn split_once(text: &[u8], stop: u8) -> Option<(&[u8], &[u8])>
+    ensures { MatchOption result (length text.now ≤ before stop text.now) (λ p. Parted stop text.now p.0.now p.1.now) }
 {
-    for (i, b) in text.iter().enumerate() {
-        if *b == stop {
-            return i;
-        }
-    }
-    text.len()
+    let at = text.iter().position(|b| *b == stop)?;
+    Some((&text[..at], &text[at + 1..]))
 }
 
 // What is left of a file, and the number of the line that was read last.
@@ -38,34 +34,35 @@ impl<'a> Lines<'a> {
         self.number
     }
 
-    pub(crate) fn more(&self) -> bool {
-        self.rest.len() > 0
-    }
-
-    // The next line. It is a fault at its own number if it is missing or has no end.
+    // The next line. It is a fault at its own number if it is missing or has no end, and then nothing is left.
     pub(crate) fn next_line(&mut self) -> Result<&'a [u8], Fault>
-        ensures { MatchResult result (λ line. Begins self.old.rest.now line.now self.new.rest.now) (λ f. (f ≡ OutOfForm) × (length self.old.rest.now ≤ before 10 self.old.rest.now)) }
+        ensures { MatchResult result (λ line. Begins self.old.rest.now line.now self.new.rest.now) (λ f. (f ≡ OutOfForm) × (length self.old.rest.now ≤ before 10 self.old.rest.now) × (self.new.rest.now ≡ [])) }
     {
         self.number = self.number.saturating_add(1);
-        let (line, rest) = self.rest.split_at(until(self.rest, b'\n'));
-        let [_, after @ ..] = rest else {
+        let Some((line, rest)) = split_once(self.rest, b'\n') else {
+            self.rest = &[];
             return Err(Fault::OutOfForm);
         };
-        self.rest = after;
+        self.rest = rest;
         Ok(line)
+    }
+}
+
+// The lines up to the end of the file.
+impl<'a> Iterator for Lines<'a> {
+    type Item = Result<&'a [u8], Fault>;
+
+    ghost remaining = { λ lines. at_most (length lines.rest.now) };
+
+    fn next(&mut self) -> Option<Result<&'a [u8], Fault>> {
+        if self.rest.is_empty() {
+            return None;
+        }
+        Some(self.next_line())
     }
 }
 
 // The fields of a line, parted by tabs: one more than it has tabs.
 pub(crate) fn fields<'a>(heap: Global, line: &'a [u8]) -> Result<Vec<&'a [u8]>, AllocError> {
-    let mut fields = Vec::new(heap);
-    let mut rest = line;
-    loop {
-        let (field, behind) = rest.split_at(until(rest, b'\t'));
-        fields.push(field)?;
-        let [_, after @ ..] = behind else {
-            return Ok(fields);
-        };
-        rest = after;
-    }
+    line.split(|b| *b == b'\t').collect(heap)
 }

@@ -7,7 +7,7 @@ pub enum Stop {
     Fault(Fault),
     // a fault of the file as a whole, told at line 0
     Whole(Fault),
-    Memory,
+    Memory(AllocError),
 }
 
 impl From<Fault> for Stop {
@@ -17,13 +17,13 @@ impl From<Fault> for Stop {
 }
 
 impl From<AllocError> for Stop {
-    fn from(_: AllocError) -> Stop {
-        Stop::Memory
+    fn from(want: AllocError) -> Stop {
+        Stop::Memory(want)
     }
 }
 
 impl<T: Drop> From<AllocFailed<T>> for Stop {
-    fn from(_: AllocFailed<T>) -> Stop {
-        Stop::Memory
+    fn from(want: AllocFailed<T>) -> Stop {
+        Stop::Memory(want.into())
     }
 }

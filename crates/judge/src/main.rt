@@ -5,7 +5,7 @@ use std::io;
 use std::io::Read;
 
 // One byte more than a file may have, so that a longer one is seen to be longer.
-const MOST: u64 = 60_001;
+const MOST: u64 = files::MOST_BYTES as u64 + 1;
 
 fn main(rt: HostRuntime) -> io::Result<()> {
     let mut file = Vec::new(rt.alloc());

@@ -1,5 +1,5 @@
 use Rattle.std.proofs.Common.{length}
 use Rattle.cases.proofs.shorthand.expanded.Given as goal
 
-abbrev pub decreases-loop-rest : goal.decreases-loop-rest
-decreases-loop-rest l = length l.rest
+abbrev pub decreases-loop-front : goal.decreases-loop-front
+decreases-loop-front l = length l.rest
