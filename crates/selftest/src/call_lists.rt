@@ -1,11 +1,11 @@
 // Comparing a monitor's answers to lists of calls.
 use crate::readings_shown::some_code;
-use crate::same::{answered, same_refusal};
+use crate::same::{answered, same};
 use crate::source::Source;
 use crate::tally::Tally;
-use monitor::{Call, Finality, Standing};
+use monitor::{Call, Standing};
 use readings::{BoundRule, Reading};
-use reference::{Asked, Book, Kind, Told, is_term};
+use reference::{Asked, Book, Finality, Grade, Kind, Told, is_term};
 use rules::Fault;
 use std::alloc::{AllocError, Global};
 use verdicts::YesNo;
@@ -47,18 +47,26 @@ fn asked(call: Call) -> Asked {
 
 // Whether a residual is the polynomial with this truth table.
 fn same_residual(residual: polynomials::Residual, table: &[bool]) -> bool {
-    for s in 0..256u32 {
-        let product = (s & 255) as u8;
-        if residual.bit(product) != is_term(table, product) {
-            return false;
-        }
+    (0..=u8::MAX).all(|product| residual.bit(product) == is_term(table, product))
+}
+
+fn grade(verdict: YesNo) -> Grade {
+    match verdict {
+        YesNo::Kept => Grade::Kept,
+        YesNo::Broken => Grade::Broken,
     }
-    true
+}
+
+fn finality(finality: monitor::Finality) -> Finality {
+    match finality {
+        monitor::Finality::SoFar => Finality::SoFar,
+        monitor::Finality::ForGood => Finality::ForGood,
+    }
 }
 
 pub fn same_standing(standing: Standing, told: &Told) -> bool {
-    matches!(standing.verdict, YesNo::Kept) == told.kept
-        && matches!(standing.finality, Finality::ForGood) == told.for_good
+    grade(standing.verdict) == told.verdict
+        && finality(standing.finality) == told.finality
         && standing.count == told.count
         && same_residual(standing.residual, told.table.as_slice())
 }
@@ -70,19 +78,15 @@ fn same_answers(
     answers: &[Result<Standing, Fault>],
     tally: &mut Tally,
 ) -> Result<bool, AllocError> {
-    for (call, answer) in calls.iter().zip(answers.iter()) {
-        let same = match (*answer, answered(book.ask(asked(*call)))?) {
-            (Ok(standing), Ok(told)) => {
-                tally.told(told.for_good);
-                same_standing(standing, &told)
-            }
-            (Err(fault), Err(refusal)) => {
-                tally.refused(Some(refusal));
-                same_refusal(fault, refusal)
-            }
-            _ => false,
-        };
-        if !same {
+    for (call, answer) in calls.iter().zip(answers) {
+        let told = answered(book.ask(asked(*call)))?;
+        if let (Ok(_), Ok(told)) = (answer, &told) {
+            tally.told(told.finality);
+        }
+        if answer.is_err() {
+            tally.met(&told)?;
+        }
+        if !same(*answer, &told, same_standing) {
             return Ok(false);
         }
     }
@@ -102,6 +106,9 @@ pub fn compare_calls<R: Reading + Drop>(
     let closed = agreement::replay(bound, calls, answers.as_mut_slice());
     let same = same_answers(book, calls, answers.as_slice(), tally)?;
     let told = book.standing()?;
-    tally.calls.note(same && same_standing(closed, &told));
+    tally
+        .counts
+        .calls
+        .note(same && same_standing(closed, &told));
     Ok(())
 }

@@ -88,7 +88,8 @@ pub fn long_file(heap: Global, events: u32) -> Result<Vec<u8>, AllocError> {
     Ok(out)
 }
 
-pub fn compare_report(heap: Global, file: &[u8]) -> Result<bool, AllocError> {
+// Whether the library reports on a file what the reference does.
+pub fn same_report(heap: Global, file: &[u8]) -> Result<bool, AllocError> {
     let ours = files::report(heap, file)?;
     let theirs = reference::report(heap, file)?;
     if WATCHES {

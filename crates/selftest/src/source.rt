@@ -35,4 +35,10 @@ impl Source {
     pub fn index(&mut self, len: usize) -> usize {
         self.below((len & 0xffff) as u32) as usize
     }
+
+    // An entry of a list that is not empty.
+    pub fn pick<T: Copy + Default>(&mut self, list: &[T]) -> T {
+        let i = self.index(list.len());
+        list.get(i).copied().unwrap_or_default()
+    }
 }
