@@ -4,7 +4,7 @@ use Rattle.rules.specs.Tree.{Tree, tree_of, within, decode, node_at}
 use Rattle.rules.specs.declared.node.Node.{Node}
 use Rattle.verdicts.specs.Scale.{Ops, Laws}
 use Rattle.verdicts.specs.Meaning.{means, rows}
-use Rattle.verdicts.specs.Step.{Below, Ordered, step_end, step_row, at, Ended, Rowed}
+use Rattle.verdicts.specs.Step.{Below, Ordered, step_end, step_row, at, Valued}
 use Rattle.verdicts.proofs.Recur.{unary_end_lem, binary_end_lem, unary_row_lem, binary_row_lem}
 use Rattle.verdicts.proofs.Steps.{end_same, row_same}
 
@@ -42,31 +42,21 @@ module _ {V : Type 0} (o : Ops V) where
   means_row laws g r s (Node.Between b x y) = binary_row_lem o laws b (means o (g x)) (means o (g y)) r s
 
   module _ (ns : List Node) (ok : Ordered ns) where
-    -- the values past the last event are the meanings there
-    pub ended_means : (scratch : List V) → Ended o ns scratch (length ns) → (d j : ℕ) → j < d → j < length ns → at o scratch j ≡ means o (decode (node_at ns) j) []
-    ended_means scratch is zero j p h = absurd (not-suc-le-zero p)
-    ended_means scratch is (suc d) j p h =
-        is j h
-        ∙ end_same o j (at o scratch) (λ a. means o (decode (node_at ns) a) []) (node_at ns j) (ok j h) (λ a l. ended_means scratch is d a (omega arith) (omega arith))
-        ∙ sym (means_end (decode (node_at ns)) (node_at ns j))
-        ∙ sym (ap (λ t. means o t []) (decode_step ns ok j h))
-
-    -- the values at an event are the meanings there, where those one place on are
-    pub rowed_means : Laws o → (letters scratch : List V) (s : List (List V)) → Rowed o ns (length ns) letters scratch (length ns) →
-        ((j : ℕ) → j < length ns → at o scratch (length ns + j) ≡ means o (decode (node_at ns) j) s) →
-        (d j : ℕ) → j < d → j < length ns → at o scratch j ≡ means o (decode (node_at ns) j) (letters ∷ s)
-    rowed_means laws letters scratch s is after zero j p h = absurd (not-suc-le-zero p)
-    rowed_means laws letters scratch s is after (suc d) j p h =
-        let m = length ns in
+    -- a step from meanings gives the meaning
+    pub end_value : (row : List V) (i : ℕ) → i < length ns → Valued o ns row [] i → step_end o (at o row) (node_at ns i) ≡ means o (decode (node_at ns) i) []
+    end_value row i h is =
         let g = decode (node_at ns) in
-        let step = decode_step ns ok j h in
-        is j h
-        ∙ row_same o j (at o letters) (at o scratch) (λ a. means o (g a) (letters ∷ s)) (λ a. at o scratch (m + a)) (λ a. means o (g a) s)
-        (at o scratch (m + j)) (means o (tree_of g (node_at ns j)) s) (node_at ns j) (ok j h)
-        (λ a l. rowed_means laws letters scratch s is after d a (omega arith) (omega arith)) (λ a l. after a (omega arith))
-        (after j h ∙ ap (λ t. means o t s) step)
-        ∙ sym (means_row laws g letters s (node_at ns j))
-        ∙ sym (ap (λ t. means o t (letters ∷ s)) step)
+        end_same o i (at o row) (λ a. means o (g a) []) (node_at ns i) (ok i h) is ∙ sym (means_end g (node_at ns i)) ∙ sym (ap (λ t. means o t []) (decode_step ns ok i h))
+
+    pub row_value : Laws o → (letters next row : List V) (rs : List (List V)) (i : ℕ) → i < length ns → Valued o ns next rs (length ns) → Valued o ns row (letters ∷ rs) i →
+        step_row o (at o letters) (at o row) (at o next) (at o next i) (node_at ns i) ≡ means o (decode (node_at ns) i) (letters ∷ rs)
+    row_value laws letters next row rs i h after is =
+        let g = decode (node_at ns) in
+        let step = decode_step ns ok i h in
+        row_same o i (at o letters) (at o row) (λ a. means o (g a) (letters ∷ rs)) (at o next) (λ a. means o (g a) rs) (at o next i) (means o (tree_of g (node_at ns i)) rs) (node_at ns i) (ok i h)
+        is (λ a l. after a (omega arith)) (after i h ∙ ap (λ t. means o t rs) step)
+        ∙ sym (means_row laws g letters rs (node_at ns i))
+        ∙ sym (ap (λ t. means o t (letters ∷ rs)) step)
 
 -- the rows from p on: the row at p, and those from p + 1 on
 pub rows_at : {V : Type 0} (n p k : ℕ) (xs : List V) → p < n → drop p (rows n k xs) ≡ take k (drop (p * k) xs) ∷ drop (p + 1) (rows n k xs)

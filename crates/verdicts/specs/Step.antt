@@ -1,11 +1,11 @@
 -- One step of an evaluation: a node's value from those of its operands. Assumes nothing.
 use Rattle.std.specs.Prelude.{◌≡◌, ℕ, ◌+◌, ◌<◌, List, length, slice_index_or}
-use Rattle.rules.specs.Tree.{node_at}
+use Rattle.rules.specs.Tree.{decode, node_at}
 use Rattle.rules.specs.declared.node.Unary.{Unary}
 use Rattle.rules.specs.declared.node.Binary.{Binary}
 use Rattle.rules.specs.declared.node.Node.{Node}
 use Rattle.verdicts.specs.Scale.{Ops}
-use Rattle.verdicts.specs.Meaning.{constant}
+use Rattle.verdicts.specs.Meaning.{constant, means}
 
 -- a node's operands are below i
 abbrev pub Below : ℕ → Node → Type 0
@@ -78,11 +78,6 @@ module _ {V : Type 0} (o : Ops V) where
   abbrev pub at : List V → ℕ → V
   at xs a = slice_index_or xs a o.bottom
 
-  -- the first i nodes have their values past the last event
-  abbrev pub Ended : List Node → List V → ℕ → Type 0
-  Ended ns scratch i = (j : ℕ) → j < i → at scratch j ≡ step_end (at scratch) (node_at ns j)
-
-  -- the first i of m nodes have their values at an event, and from m on stand those one place on
-  abbrev pub Rowed : List Node → ℕ → List V → List V → ℕ → Type 0
-  Rowed ns m letters scratch i =
-      (j : ℕ) → j < i → at scratch j ≡ step_row (at letters) (at scratch) (λ a. at scratch (m + a)) (at scratch (m + j)) (node_at ns j)
+  -- the first i nodes have their values in this row, at the place from which these rows of letters are left
+  abbrev pub Valued : List Node → List V → List (List V) → ℕ → Type 0
+  Valued ns row rs i = (j : ℕ) → j < i → at row j ≡ means o (decode (node_at ns) j) rs

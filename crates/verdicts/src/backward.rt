@@ -1,53 +1,36 @@
 // The backward evaluation of a rule: a row of values for each place, the last place first.
-ghost use Rattle.std.specs.Prelude.{◌≡◌, ℕ, ◌+◌, ◌*◌, ◌<◌, ◌≤◌, length, take, drop};
-ghost use Rattle.rules.specs.Rules.{node_count, nodes_of, tree_of_rule};
+ghost use Rattle.std.specs.Prelude.{◌≡◌, ℕ, ◌+◌, ◌*◌, ◌≤◌, List, [], ◌∷◌, length, take, drop};
+ghost use Rattle.rules.specs.Rules.{node_count, letter_count, nodes_of, tree_of_rule};
 ghost use Rattle.rules.specs.Tree.{Tree, flatten};
-ghost use Rattle.verdicts.specs.Meaning.{means, rows};
+ghost use Rattle.verdicts.specs.Meaning.{means};
 ghost use Rattle.rules.specs.First.{Left, answer};
 ghost use Rattle.verdicts.specs.Outcome.{Filled, recorded, refused};
-ghost use Rattle.verdicts.specs.Step.{Ordered, Lettered, Ended, Rowed, at};
+ghost use Rattle.verdicts.specs.Step.{Valued};
 
+use crate::events::MOST_EVENTS;
 use crate::scale::Scale;
 use crate::step::{node_end, node_row};
-use rules::{Fault, Node, Rule};
-
-const MOST_EVENTS: usize = 4095;
-
-// Copies the first m values to the next m.
-fn keep<S: Scale>(m: usize, scratch: &mut [S])
-    requires { m + m ≤ length scratch.old }
-    ensures first { (j : ℕ) → j < m → at S.ops scratch.new j ≡ at S.ops scratch.old j }
-    ensures second { (j : ℕ) → j < m → at S.ops scratch.new (m + j) ≡ at S.ops scratch.old j }
-    ensures rest { drop (m + m) scratch.new ≡ drop (m + m) scratch.old }
-{
-    for i in 0..m {
-        scratch[m + i] = scratch[i];
-    }
-}
+use rules::{Fault, Rule};
 
 // The values of all nodes past the last event.
-fn end_row<S: Scale>(nodes: &[Node], scratch: &mut [S])
-    requires ordered { Ordered nodes.now }
-    requires nodes_in_bounds { length nodes.now ≤ length scratch.old }
-    ensures values { Ended S.ops nodes.now scratch.new (length nodes.now) }
-    ensures rest { drop (length nodes.now) scratch.new ≡ drop (length nodes.now) scratch.old }
+fn end_row<S: Scale>(rule: &Rule, here: &mut [S])
+    requires { length here.old ≡ node_count rule.now }
+    ensures { Valued S.ops (nodes_of rule.now) here.new [] (node_count rule.now) }
 {
-    for i in 0..nodes.len() {
-        scratch[i] = node_end(nodes[i], scratch);
+    for (i, node) in rule.nodes().iter().enumerate() {
+        here[i] = node_end(*node, here);
     }
 }
 
-// The values of all nodes at an event.
-fn row<S: Scale>(nodes: &[Node], letters: &[S], scratch: &mut [S])
-    requires ordered { Ordered nodes.now }
-    requires lettered { Lettered (length letters.now) nodes.now }
-    requires nodes_in_bounds { length nodes.now + length nodes.now ≤ length scratch.old }
-    ensures values { Rowed S.ops nodes.now (length nodes.now) letters.now scratch.new (length nodes.now) }
-    ensures rest { drop (length nodes.now) scratch.new ≡ drop (length nodes.now) scratch.old }
+// The values of all nodes at an event with these letters, from those one place on.
+fn row<S: Scale>(rule: &Rule, letters: &[S], next: &[S], here: &mut [S])
+    requires letters_len { length letters.now ≡ letter_count rule.now }
+    requires next_len { length next.now ≡ node_count rule.now }
+    requires here_len { length here.old ≡ node_count rule.now }
+    ensures { (rs : List (List S)) → Valued S.ops (nodes_of rule.now) next.now rs (node_count rule.now) → Valued S.ops (nodes_of rule.now) here.new (letters.now ∷ rs) (node_count rule.now) }
 {
-    let m = nodes.len();
-    for i in 0..m {
-        scratch[i] = node_row(nodes[i], i, m, letters, scratch);
+    for (i, node) in rule.nodes().iter().enumerate() {
+        here[i] = node_row(*node, letters, here, next, next[i]);
     }
 }
 
@@ -62,17 +45,19 @@ fn letters_at<S: Scale>(valuation: &[S], k: usize, p: usize) -> &[S]
 }
 
 // Goes through the places, from the last to the first.
-fn fill<S: Scale>(nodes: &[Node], k: usize, n: usize, valuation: &[S], scratch: &mut [S])
-    requires ordered { Ordered nodes.now }
-    requires lettered { Lettered k nodes.now }
-    requires k_in_bounds { n * k ≤ length valuation.now }
-    requires nodes_in_bounds { length nodes.now + length nodes.now ≤ length scratch.old }
-    ensures { Filled S.ops nodes.now (length nodes.now) n (rows n k valuation.now) scratch.old scratch.new }
+fn fill<S: Scale>(rule: &Rule, n: usize, valuation: &[S], scratch: &mut [S])
+    requires letters_in_bounds { n * letter_count rule.now ≤ length valuation.now }
+    requires nodes_in_bounds { 2 * node_count rule.now ≤ length scratch.old }
+    ensures { Filled S.ops (nodes_of rule.now) (node_count rule.now) n (recorded rule.now n valuation.now) scratch.old scratch.new }
 {
-    end_row(nodes, scratch);
+    let m = rule.nodes().len();
+    let k = rule.letters().len();
+    let (here, rest) = scratch.split_at_mut(m);
+    let (next, _) = rest.split_at_mut(m);
+    end_row(rule, here);
     for p in (0..n).rev() {
-        keep(nodes.len(), scratch);
-        row(nodes, letters_at(valuation, k, p), scratch);
+        next.copy_from_slice(here);
+        row(rule, letters_at(valuation, k, p), next, here);
     }
 }
 
@@ -88,8 +73,7 @@ pub fn evaluate<S: Scale>(
     ensures means_tree { (t : Tree ℕ) → flatten t 0 ≡ nodes_of rule.now → result ≡ answer (refused rule.now n valuation.now scratch.old) (means S.ops t (recorded rule.now n valuation.now)) }
     ensures leaves { Left (refused rule.now n valuation.now scratch.old) (scratch.new ≡ scratch.old) (Filled S.ops (nodes_of rule.now) (node_count rule.now) n (recorded rule.now n valuation.now) scratch.old scratch.new) }
 {
-    let nodes = rule.nodes();
-    let m = nodes.len();
+    let m = rule.nodes().len();
     let k = rule.letters().len();
     if n > MOST_EVENTS {
         return Err(Fault::ManyEvents);
@@ -100,6 +84,6 @@ pub fn evaluate<S: Scale>(
     if scratch.len() < 2 * m {
         return Err(Fault::ShortBuffer(2 * m));
     }
-    fill(nodes, k, n, valuation, scratch);
+    fill(rule, n, valuation, scratch);
     Ok(scratch[m - 1])
 }

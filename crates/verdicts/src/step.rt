@@ -1,5 +1,5 @@
 // One step of an evaluation: the value of a node from those of its operands.
-ghost use Rattle.std.specs.Prelude.{◌≡◌, ◌+◌, ◌<◌, ◌≤◌, length};
+ghost use Rattle.std.specs.Prelude.{◌≡◌, length};
 ghost use Rattle.verdicts.specs.Meaning.{constant};
 ghost use Rattle.verdicts.specs.Step.{Below, Known, unary_end, binary_end, unary_row, binary_row, step_end, step_row, at};
 
@@ -57,48 +57,31 @@ fn binary_row<S: Scale>(op: Binary, x: S, y: S, own: S) -> S
     }
 }
 
-// A node past the last event. `scratch` has the values there of the nodes before it.
-pub(crate) fn node_end<S: Scale>(node: Node, scratch: &[S]) -> S
-    requires { Below (length scratch.now) node }
-    ensures { result ≡ step_end S.ops (at S.ops scratch.now) node }
+// A node past the last event. `here` has the values there of the nodes before it.
+pub(crate) fn node_end<S: Scale>(node: Node, here: &[S]) -> S
+    requires { Below (length here.now) node }
+    ensures { result ≡ step_end S.ops (at S.ops here.now) node }
 {
     match node {
         Node::Letter(_) => S::bottom(),
         Node::Truth(v) => truth_value(v),
-        Node::Before(op, a) => unary_end(op, scratch[a as usize]),
-        Node::Between(op, a, b) => binary_end(op, scratch[a as usize], scratch[b as usize]),
+        Node::Before(op, a) => unary_end(op, here[a as usize]),
+        Node::Between(op, a, b) => binary_end(op, here[a as usize], here[b as usize]),
     }
 }
 
-// Node `own` at an event. `scratch` has the values there of the nodes before it, and from `m` on those of all nodes one
-// place on.
-pub(crate) fn node_row<S: Scale>(
-    node: Node,
-    own: usize,
-    m: usize,
-    letters: &[S],
-    scratch: &[S],
-) -> S
+// A node at an event. `here` has the values there of the nodes before it, `next` those one place on, and `own` is its own
+// one place on.
+pub(crate) fn node_row<S: Scale>(node: Node, letters: &[S], here: &[S], next: &[S], own: S) -> S
     requires known { Known (length letters.now) node }
-    requires below { Below own node }
-    requires own_lt_m { own < m }
-    requires m_in_bounds { m + m ≤ length scratch.now }
-    ensures { result ≡ step_row S.ops (at S.ops letters.now) (at S.ops scratch.now) (λ a. at S.ops scratch.now (m + a)) (at S.ops scratch.now (m + own)) node }
+    requires below_here { Below (length here.now) node }
+    requires below_next { Below (length next.now) node }
+    ensures { result ≡ step_row S.ops (at S.ops letters.now) (at S.ops here.now) (at S.ops next.now) own node }
 {
     match node {
         Node::Letter(l) => letters[l as usize],
         Node::Truth(v) => truth_value(v),
-        Node::Before(op, a) => unary_row(
-            op,
-            scratch[a as usize],
-            scratch[m + a as usize],
-            scratch[m + own],
-        ),
-        Node::Between(op, a, b) => binary_row(
-            op,
-            scratch[a as usize],
-            scratch[b as usize],
-            scratch[m + own],
-        ),
+        Node::Before(op, a) => unary_row(op, here[a as usize], next[a as usize], own),
+        Node::Between(op, a, b) => binary_row(op, here[a as usize], here[b as usize], own),
     }
 }

@@ -1,7 +1,7 @@
-use Rattle.std.proofs.Common.{◌≡◌, length, drop}
-use Rattle.verdicts.specs.Step.{Ended}
+use Rattle.std.proofs.Common.{◌∷◌, [], List, drop}
+use Rattle.rules.specs.Rules.{nodes_of, node_count}
+use Rattle.verdicts.specs.Step.{Valued}
 use Rattle.verdicts.proofs.backward.end_row.Given as goal
 
 abbrev pub invariant-loop-i : goal.invariant-loop-i
-invariant-loop-i g l =
-    Ended g.S.Scale.ops l.nodes l.scratch l.i × (drop (length l.nodes) l.scratch ≡ drop (length l.nodes) l.initial.scratch)
+invariant-loop-i g l = Valued g.S.Scale.ops (nodes_of l.rule) l.here [] l.i

@@ -5,9 +5,7 @@ use Rattle.verdicts.specs.Meaning.{means}
 use Rattle.verdicts.specs.Step.{Ordered, Lettered, at}
 use Rattle.rules.specs.First.{Left, answer}
 use Rattle.verdicts.specs.Outcome.{Filled, refused, recorded}
-use Rattle.verdicts.proofs.Fill.{filled_as}
 use Rattle.rules.proofs.Flat.{flat_decode}
-use Rattle.verdicts.proofs.Rules.{nodes_ordered, nodes_lettered}
 use Rattle.verdicts.proofs.backward.evaluate.Goals as goal
 
 pub overflow_mul-n : goal.overflow_mul-n
@@ -18,17 +16,10 @@ overflow_mul-n g c =
     omega arith
 
 pub fill-requires : goal.fill-requires
-fill-requires g c =
-    let rule = c.args.rule.now in
-    let same = c.nodes-nodes.ensures.same in
-    let long : length (nodes_of rule) ≡ node_count rule = sym (ap length same) ∙ c.nodes-nodes.ensures.long in
-    let Letters : ℕ → Type 0 = λ k. Lettered k c.nodes-nodes.result.now in
-    record {
-      ordered = subst Ordered (sym same) (nodes_ordered rule long);
-      lettered = subst Letters (sym c.letters-k.ensures.long) (subst (Lettered (letter_count rule)) (sym same) (nodes_lettered rule long));
-      k_in_bounds = c.if-valuation-n.false;
-      nodes_in_bounds = omega arith;
-    }
+fill-requires g c = record {
+  letters_in_bounds = subst (λ k. c.args.n * k ≤ length c.args.valuation.now) c.letters-k.ensures.long c.if-valuation-n.false;
+  nodes_in_bounds = omega arith;
+}
 
 pub returns : goal.returns
 returns g c =
@@ -38,13 +29,13 @@ returns g c =
     let old = c.args.scratch.now in
     let new = c.fill.new.scratch in
     let ops = g.S.Scale.ops in
-    let nodes = c.nodes-nodes.result.now in
+    let nodes = c.nodes-m.result.now in
     let no = refused rule n xs old in
-    let same = c.nodes-nodes.ensures.same in
-    let long : length (nodes_of rule) ≡ node_count rule = sym (ap length same) ∙ c.nodes-nodes.ensures.long in
+    let same = c.nodes-m.ensures.same in
+    let long : length (nodes_of rule) ≡ node_count rule = sym (ap length same) ∙ c.nodes-m.ensures.long in
     let none : no ≡ None = search rules in
-    let done = filled_as ops nodes (nodes_of rule) (node_count rule) (length c.letters-k.result.now) (letter_count rule) n xs old new same long c.letters-k.ensures.long c.fill.ensures in
-    let last : length nodes - 1 ≡ node_count rule - 1 = ap (λ i. i - 1) c.nodes-nodes.ensures.long in
+    let done = c.fill.ensures in
+    let last : length nodes - 1 ≡ node_count rule - 1 = ap (λ i. i - 1) c.nodes-m.ensures.long in
     let within : length nodes - 1 < length new = omega arith in
     let low : node_count rule - 1 < node_count rule = omega (arith, rule.some) in
     let root : c.index-scratch-m.result ≡ means ops (tree_of_rule rule) (recorded rule n xs) =
