@@ -2,10 +2,10 @@
 use crate::bound::Bound;
 use crate::formula::Formula;
 use crate::grade::Grade;
-use crate::meaning::{Record, verdict};
+use crate::meaning::Record;
 use crate::refusal::{Reason, Refusal, Stop};
-use crate::residue::{obligations, residue};
-use crate::rests::{all_rests, followed};
+use crate::residue::residue;
+use crate::rests::all_rests;
 use crate::set::Set;
 use std::alloc::{AllocError, Global};
 use std::fmt;
@@ -58,7 +58,7 @@ pub struct Book<'a> {
 
 // How many obligations a rule has, or that they are too many.
 pub fn count_obligations(heap: Global, formula: &Formula) -> Result<usize, Stop> {
-    let count = obligations(heap, formula)?.len();
+    let count = formula.obligations(heap)?.len();
     if count > 8 {
         return Err(Reason::ManyObligations.at(count).into());
     }
@@ -71,7 +71,7 @@ pub fn open_book(heap: Global, bound: &Bound) -> Result<Book<'_>, AllocError> {
     Ok(Book {
         heap,
         bound,
-        obligations: obligations(heap, &bound.formula)?,
+        obligations: bound.formula.obligations(heap)?,
         rests: all_rests(heap, &bound.formula, &possible)?,
         events: Vec::new(heap),
         marks: Vec::new(heap),
@@ -83,8 +83,8 @@ impl Book<'_> {
     fn finality(&self, record: &Record, now: Grade) -> Result<Finality, AllocError> {
         let formula = &self.bound.formula;
         for rest in self.rests.iter() {
-            let whole = followed(self.heap, formula, record, rest.as_slice())?;
-            if verdict(self.heap, formula, &whole)? != now {
+            let whole = formula.followed(self.heap, record, rest.as_slice())?;
+            if formula.verdict(self.heap, &whole)? != now {
                 return Ok(Finality::SoFar);
             }
         }
@@ -107,7 +107,7 @@ impl Book<'_> {
     // How things stand.
     pub fn standing(&self) -> Result<Told, AllocError> {
         let record = self.bound.record(self.heap, self.events.as_slice())?;
-        let verdict = verdict(self.heap, &self.bound.formula, &record)?;
+        let verdict = self.bound.formula.verdict(self.heap, &record)?;
         Ok(Told {
             verdict,
             finality: self.finality(&record, verdict)?,

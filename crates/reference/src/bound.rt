@@ -25,12 +25,17 @@ impl Bound {
     }
 
     // Whether some event does.
-    pub fn some_doubt(&self, events: &[u32]) -> bool {
+    pub(crate) fn some_doubt(&self, events: &[u32]) -> bool {
         events.iter().any(|code| self.doubted(*code))
     }
 
     // Why an event of this number is refused, if it is.
-    pub fn check_event(&self, code: u32, number: usize, takes_doubt: bool) -> Result<(), Refusal> {
+    pub(crate) fn check_event(
+        &self,
+        code: u32,
+        number: usize,
+        takes_doubt: bool,
+    ) -> Result<(), Refusal> {
         if code >= self.kind.codes() {
             return Err(Reason::HighCode.at(number));
         }
@@ -63,7 +68,7 @@ impl Bound {
     }
 
     // The set of the letters that are on at a code.
-    pub fn letters_on(&self, code: u32) -> Set {
+    pub(crate) fn letters_on(&self, code: u32) -> Set {
         Set::of(
             self.numbers
                 .iter()
@@ -72,13 +77,10 @@ impl Bound {
     }
 
     // The sets of letters that some code shows, with none in doubt.
-    pub fn possible_sets(&self, heap: Global) -> Result<BTreeSet<Set>, AllocError> {
-        let mut sets = BTreeSet::new(heap);
-        for code in 0..self.kind.codes() {
-            if !self.doubted(code) {
-                sets.insert(self.letters_on(code))?;
-            }
-        }
-        Ok(sets)
+    pub(crate) fn possible_sets(&self, heap: Global) -> Result<BTreeSet<Set>, AllocError> {
+        (0..self.kind.codes())
+            .filter(|code| !self.doubted(*code))
+            .map(|code| self.letters_on(code))
+            .collect(heap)
     }
 }

@@ -1,7 +1,7 @@
 // Claims: which are supported, and those that are written.
 use crate::formula::{Formula, Node};
 use crate::grade::Grade;
-use crate::meaning::{Record, Values, values_of};
+use crate::meaning::{Record, Values};
 use crate::numbered::numbered;
 use crate::refusal::{Reason, Refusal};
 use crate::sign::{Infix, Prefix};
@@ -171,27 +171,42 @@ impl Case<'_> {
     }
 }
 
-// CHECKS a list of claims on a record: whether the rule is kept.
-pub fn check_claims<'a>(
-    formula: &'a Formula,
-    record: &'a Record,
-    claims: &'a [Claimed],
-) -> Result<bool, Refusal> {
-    let last = claims.last().ok_or(Reason::BadEnd.at(0))?.said;
-    if last.node != formula.root() || last.place != 1 {
-        return Err(Reason::BadEnd.at(claims.len()));
-    }
-    for (i, claim) in claims.iter().enumerate() {
-        let case = Case {
-            record,
-            earlier: &claims[..i],
-            claim: *claim,
-        };
-        if !case.accepted(formula) {
-            return Err(Reason::Unsupported.at(i.saturating_add(1)));
+impl Formula {
+    // CHECKS a list of claims on a record: whether the rule is kept.
+    pub fn check_claims(&self, record: &Record, claims: &[Claimed]) -> Result<bool, Refusal> {
+        let last = claims.last().ok_or(Reason::BadEnd.at(0))?.said;
+        if last.node != self.root() || last.place != 1 {
+            return Err(Reason::BadEnd.at(claims.len()));
         }
+        for (i, claim) in claims.iter().enumerate() {
+            let case = Case {
+                record,
+                earlier: &claims[..i],
+                claim: *claim,
+            };
+            if !case.accepted(self) {
+                return Err(Reason::Unsupported.at(i.saturating_add(1)));
+            }
+        }
+        Ok(last.holds)
     }
-    Ok(last.holds)
+
+    // WRITES the claims on all nodes at all places of a record.
+    pub fn write_claims(&self, heap: Global, record: &Record) -> Result<Vec<Claimed>, AllocError> {
+        let values = self.values(heap, record)?;
+        let writer = Writer {
+            root: self.root(),
+            values: &values,
+            events: record.events.len(),
+        };
+        let mut out = Vec::new(heap);
+        for place in (1..=record.places()).rev() {
+            for (i, node) in self.nodes.iter().enumerate() {
+                out.push(writer.claim(place, i.saturating_add(1), *node))?;
+            }
+        }
+        Ok(out)
+    }
 }
 
 // The numbers of the claims that one rests on.
@@ -292,25 +307,4 @@ impl Writer<'_> {
             second,
         }
     }
-}
-
-// WRITES the claims on all nodes at all places.
-pub fn write_claims(
-    heap: Global,
-    formula: &Formula,
-    record: &Record,
-) -> Result<Vec<Claimed>, AllocError> {
-    let values = values_of(heap, formula, record)?;
-    let writer = Writer {
-        root: formula.root(),
-        values: &values,
-        events: record.events.len(),
-    };
-    let mut out = Vec::new(heap);
-    for place in (1..=record.places()).rev() {
-        for (i, node) in formula.nodes.iter().enumerate() {
-            out.push(writer.claim(place, i.saturating_add(1), *node))?;
-        }
-    }
-    Ok(out)
 }

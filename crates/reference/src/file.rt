@@ -1,12 +1,10 @@
 // The report on a whole file.
 use crate::book::open_book;
 use crate::bound::Bound;
-use crate::claims::write_claims;
 use crate::formula::read_formula;
-use crate::meaning::{Record, verdict};
+use crate::meaning::Record;
 use crate::reading::{Kind, Reading};
 use crate::refusal::{Reason, Refusal, Stop};
-use crate::residue::obligations;
 use std::alloc::{AllocError, Global};
 
 const OUT_OF_FORM: Refusal = Refusal {
@@ -122,7 +120,7 @@ fn read_file(heap: Global, lines: &mut Lines) -> Result<File, Stop> {
 impl File {
     // What the monitor says, as it is printed.
     fn push_watched(&self, heap: Global, out: &mut String) -> Result<(), Stop> {
-        if obligations(heap, &self.bound.formula)?.len() > 8 {
+        if self.bound.formula.obligations(heap)?.len() > 8 {
             out.push_str("watch\tnone\n")?;
             return Ok(());
         }
@@ -143,7 +141,7 @@ impl File {
         record: &Record,
         out: &mut String,
     ) -> Result<(), AllocError> {
-        for claim in write_claims(heap, &self.bound.formula, record)? {
+        for claim in self.bound.formula.write_claims(heap, record)? {
             write!(out, "claim\t{claim}\n")?;
         }
         Ok(())
@@ -153,7 +151,7 @@ impl File {
     fn judged(&self, heap: Global) -> Result<String, Stop> {
         let formula = &self.bound.formula;
         let record = self.bound.record(heap, self.events.as_slice())?;
-        let verdict = verdict(heap, formula, &record)?;
+        let verdict = formula.verdict(heap, &record)?;
         let mut out = format!(in heap; "verdict\t{verdict}\n")?;
         if self.bound.some_doubt(self.events.as_slice()) {
             out.push_str("watch\tnone\n")?;

@@ -72,6 +72,7 @@ impl Yard {
 
     // Settles the waiting operators that have their operands before the next sign.
     fn settle_before(&mut self, next: Sign) -> Result<(), AllocError> {
+        // as many times as there are signs, each of which goes once
         for _ in 0..self.waiting.len() {
             match self.waiting.pop_if(|top| goes_first(*top, next)) {
                 Some(operator) => self.apply(operator)?,

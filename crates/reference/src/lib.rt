@@ -20,11 +20,11 @@ mod sign;
 
 pub use book::{Asked, Book, Finality, Told, count_obligations, open_book};
 pub use bound::Bound;
-pub use claims::{Claimed, Said, check_claims, write_claims};
+pub use claims::{Claimed, Said};
 pub use file::report;
 pub use formula::{Formula, Letter, Node, read_formula};
 pub use grade::Grade;
-pub use meaning::{Record, Values, values_of, verdict};
+pub use meaning::{Record, Values};
 pub use reading::{Kind, Reading};
 pub use refusal::{Layer, Reason, Refusal, Stop};
 pub use residue::is_term;

@@ -1,4 +1,6 @@
 // What a rule means, by its quantifiers over places.
+ghost use Rattle.std.specs.Prelude.{◌≡◌, ◌+◌, vec_len};
+
 use crate::formula::{Formula, Node};
 use crate::grade::Grade;
 use crate::numbered::numbered;
@@ -23,8 +25,10 @@ impl Record {
     }
 
     // How many places there are: one for each event, and the empty rest.
-    pub fn places(&self) -> usize {
-        self.events.len().saturating_add(1)
+    pub fn places(&self) -> usize
+        ensures { result ≡ vec_len self.now.events + 1 }
+    {
+        self.events.len() + 1
     }
 }
 
@@ -45,6 +49,7 @@ impl Values {
         self.at(node, place) == Grade::Kept
     }
 
+    // `always` and `eventually` are the two quantifiers; a function for both would hide which is which
     fn always(&self, x: usize, place: usize) -> Grade {
         (place..=self.events)
             .map(|i| self.at(x, i))
@@ -112,23 +117,25 @@ impl Values {
     }
 }
 
-// The values of all nodes at all places.
-pub fn values_of(heap: Global, formula: &Formula, record: &Record) -> Result<Values, AllocError> {
-    let mut values = Values {
-        events: record.events.len(),
-        nodes: Vec::new(heap),
-    };
-    for node in formula.nodes.iter() {
-        let row = (1..=record.places())
-            .map(|place| values.grade(record, *node, place))
-            .collect(heap)?;
-        values.nodes.push(row)?;
+impl Formula {
+    // The values of all nodes at all places of a record.
+    pub fn values(&self, heap: Global, record: &Record) -> Result<Values, AllocError> {
+        let mut values = Values {
+            events: record.events.len(),
+            nodes: Vec::new(heap),
+        };
+        for node in self.nodes.iter() {
+            let row = (1..=record.places())
+                .map(|place| values.grade(record, *node, place))
+                .collect(heap)?;
+            values.nodes.push(row)?;
+        }
+        Ok(values)
     }
-    Ok(values)
-}
 
-// The verdict: the whole rule at place 1.
-pub fn verdict(heap: Global, formula: &Formula, record: &Record) -> Result<Grade, AllocError> {
-    let values = values_of(heap, formula, record)?;
-    Ok(values.at(formula.root(), 1))
+    // The verdict: the whole rule at place 1.
+    pub fn verdict(&self, heap: Global, record: &Record) -> Result<Grade, AllocError> {
+        let values = self.values(heap, record)?;
+        Ok(values.at(self.root(), 1))
+    }
 }

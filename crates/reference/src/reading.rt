@@ -29,7 +29,7 @@ impl Kind {
     }
 
     // The mark of the name of this number at a code.
-    pub fn mark(self, code: u32, number: usize) -> Grade {
+    pub(crate) fn mark(self, code: u32, number: usize) -> Grade {
         let answers = Set(u64::from(code / 256));
         let levels = Set(u64::from(code % 256));
         match self {

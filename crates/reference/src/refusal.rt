@@ -1,4 +1,6 @@
 // Why something is refused.
+ghost use Rattle.std.specs.Prelude.{◌≡◌};
+
 use std::alloc::{AllocError, AllocFailed};
 use std::fmt;
 
@@ -46,7 +48,10 @@ pub struct Refusal {
 
 impl Reason {
     // The refusal for this reason at a place.
-    pub fn at(self, place: usize) -> Refusal {
+    pub fn at(self, place: usize) -> Refusal
+        ensures reason { result.reason ≡ self }
+        ensures place { result.place ≡ place }
+    {
         Refusal {
             reason: self,
             place,
@@ -55,10 +60,6 @@ impl Reason {
 }
 
 impl Refusal {
-    pub fn number(self) -> u8 {
-        self.reason as u8
-    }
-
     pub fn layer(self) -> Layer {
         match self.reason {
             Reason::NoSign | Reason::LongName => Layer::Signs,
@@ -77,7 +78,7 @@ impl Refusal {
 
 impl fmt::Display for Refusal {
     fn fmt<W: fmt::Write>(&self, f: &mut fmt::Formatter<W>) -> fmt::Result {
-        let number = self.number();
+        let number = self.reason as u8;
         let layer = self.layer() as u8;
         let place = self.place;
         write!(f, "{number}\t{layer}\t{place}")

@@ -13,22 +13,24 @@ fn looks_far(node: Node) -> bool {
     )
 }
 
-// Whether a node, which has this number, is an obligation: the root, an operand of `o`, or one that looks far.
-fn is_obligation(formula: &Formula, number: usize, node: Node) -> bool {
-    let next = Node::Prefix(Prefix::Next, number);
-    number == formula.root() || looks_far(node) || formula.nodes.contains(&next)
-}
-
-// The numbers of the nodes that are obligations.
-pub fn obligations(heap: Global, formula: &Formula) -> Result<Vec<usize>, AllocError> {
-    let mut out = Vec::new(heap);
-    for (i, node) in formula.nodes.iter().enumerate() {
-        let number = i.saturating_add(1);
-        if is_obligation(formula, number, *node) {
-            out.push(number)?;
-        }
+impl Formula {
+    // Whether a node, which has this number, is an obligation: the root, an operand of `o`, or one that looks far.
+    fn is_obligation(&self, number: usize, node: Node) -> bool {
+        let next = Node::Prefix(Prefix::Next, number);
+        number == self.root() || looks_far(node) || self.nodes.contains(&next)
     }
-    Ok(out)
+
+    // The numbers of the nodes that are obligations.
+    pub(crate) fn obligations(&self, heap: Global) -> Result<Vec<usize>, AllocError> {
+        let mut out = Vec::new(heap);
+        for (i, node) in self.nodes.iter().enumerate() {
+            let number = i.saturating_add(1);
+            if self.is_obligation(number, *node) {
+                out.push(number)?;
+            }
+        }
+        Ok(out)
+    }
 }
 
 // Truth values of the first nodes at an event with these letters, and of the obligations on the rest behind it.

@@ -1,37 +1,39 @@
 // What can still come. A rest is a list of sets of letters.
 use crate::formula::Formula;
 use crate::grade::Grade;
-use crate::meaning::{Record, values_of};
+use crate::meaning::Record;
 use crate::set::Set;
 use std::alloc::{AllocError, Global};
 use std::collections::BTreeSet;
 
-// The events of a record, and a rest behind them.
-pub fn followed(
-    heap: Global,
-    formula: &Formula,
-    record: &Record,
-    rest: &[Set],
-) -> Result<Record, AllocError> {
-    let mut events = record.events.clone()?;
-    for set in rest {
-        events.push(
-            (1..=formula.letters.len())
-                .map(|letter| Grade::from(set.has(letter)))
-                .collect(heap)?,
-        )?;
+impl Formula {
+    // The events of a record, and a rest behind them.
+    pub(crate) fn followed(
+        &self,
+        heap: Global,
+        record: &Record,
+        rest: &[Set],
+    ) -> Result<Record, AllocError> {
+        let mut events = record.events.clone()?;
+        for set in rest {
+            events.push(
+                (1..=self.letters.len())
+                    .map(|letter| Grade::from(set.has(letter)))
+                    .collect(heap)?,
+            )?;
+        }
+        Ok(Record { events })
     }
-    Ok(Record { events })
-}
 
-// The set of the nodes that hold at the first place of a rest.
-fn nodes_holding(heap: Global, formula: &Formula, rest: &[Set]) -> Result<Set, AllocError> {
-    let none = Record {
-        events: Vec::new(heap),
-    };
-    let record = followed(heap, formula, &none, rest)?;
-    let values = values_of(heap, formula, &record)?;
-    Ok(Set::of((1..=formula.root()).map(|j| values.holds(j, 1))))
+    // The set of the nodes that hold at the first place of a rest.
+    fn nodes_holding(&self, heap: Global, rest: &[Set]) -> Result<Set, AllocError> {
+        let none = Record {
+            events: Vec::new(heap),
+        };
+        let record = self.followed(heap, &none, rest)?;
+        let values = self.values(heap, &record)?;
+        Ok(Set::of((1..=self.root()).map(|j| values.holds(j, 1))))
+    }
 }
 
 // The rests that are one set longer than this one.
@@ -56,7 +58,7 @@ pub fn all_rests(
     possible: &BTreeSet<Set>,
 ) -> Result<Vec<Vec<Set>>, AllocError> {
     let mut seen = BTreeSet::new(heap);
-    seen.insert(nodes_holding(heap, formula, &[])?)?;
+    seen.insert(formula.nodes_holding(heap, &[])?)?;
     let mut rests: Vec<Vec<Set>> = Vec::new(heap);
     rests.push(Vec::new(heap))?;
     // the list grows as it is read, so no iterator can hold it
@@ -65,7 +67,7 @@ pub fn all_rests(
             break;
         };
         for rest in longer(heap, possible, rest.as_slice())? {
-            if seen.insert(nodes_holding(heap, formula, rest.as_slice())?)? {
+            if seen.insert(formula.nodes_holding(heap, rest.as_slice())?)? {
                 rests.push(rest)?;
             }
         }

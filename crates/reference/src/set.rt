@@ -7,7 +7,7 @@ pub struct Set(pub u64);
 
 impl Set {
     // The numbers at which a list of flags, numbered from 1, has true.
-    pub fn of<I: Iterator<Item = bool> + Drop>(flags: I) -> Set
+    pub(crate) fn of<I: Iterator<Item = bool> + Drop>(flags: I) -> Set
         requires can { I.can_next flags }
         requires ends { IsFinite (I.remaining flags) }
     {
@@ -22,11 +22,7 @@ impl Set {
         Set(set)
     }
 
-    pub fn has(self, number: usize) -> bool {
-        let mut left = self.0;
-        for _ in 1..number {
-            left /= 2;
-        }
-        left % 2 == 1
+    pub(crate) fn has(self, number: usize) -> bool {
+        (1..number).fold(self.0, |left, _| left / 2) % 2 == 1
     }
 }

@@ -3,21 +3,16 @@ use crate::readings_shown::some_code;
 use crate::same::{answered, same};
 use crate::source::Source;
 use crate::tally::Tally;
+use crate::verdicts_said::Graded;
 use monitor::{Call, Standing};
 use readings::{BoundRule, Reading};
-use reference::{Asked, Book, Finality, Grade, Kind, Told, is_term};
+use reference::{Asked, Book, Finality, Kind, Told, is_term};
 use rules::Fault;
 use std::alloc::{AllocError, Global};
-use verdicts::YesNo;
 
 // A list of calls: events most often, and marks more often than they are taken back.
-pub fn some_calls(
-    heap: Global,
-    source: &mut Source,
-    kind: Kind,
-    count: u32,
-) -> Result<Vec<Call>, AllocError> {
-    let mut calls = Vec::new(heap);
+pub fn some_calls(source: &mut Source, kind: Kind, count: u32) -> Result<Vec<Call>, AllocError> {
+    let mut calls = Vec::new(source.heap);
     let marking = source.one_in(5);
     for _ in 0..count {
         let call = match source.below(if marking { 20 } else { 12 }) {
@@ -50,13 +45,6 @@ fn same_residual(residual: polynomials::Residual, table: &[bool]) -> bool {
     (0..=u8::MAX).all(|product| residual.bit(product) == is_term(table, product))
 }
 
-fn grade(verdict: YesNo) -> Grade {
-    match verdict {
-        YesNo::Kept => Grade::Kept,
-        YesNo::Broken => Grade::Broken,
-    }
-}
-
 fn finality(finality: monitor::Finality) -> Finality {
     match finality {
         monitor::Finality::SoFar => Finality::SoFar,
@@ -65,7 +53,7 @@ fn finality(finality: monitor::Finality) -> Finality {
 }
 
 pub fn same_standing(standing: Standing, told: &Told) -> bool {
-    grade(standing.verdict) == told.verdict
+    standing.verdict.grade() == told.verdict
         && finality(standing.finality) == told.finality
         && standing.count == told.count
         && same_residual(standing.residual, told.table.as_slice())

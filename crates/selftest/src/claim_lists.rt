@@ -3,11 +3,11 @@ use crate::same::same;
 use crate::source::Source;
 use crate::tally::Tally;
 use crate::trial::Trial;
+use crate::verdicts_said::Graded;
 use claims::{Claim, Sign};
 use readings::Reading;
-use reference::{Claimed, Said, check_claims, write_claims};
+use reference::{Claimed, Grade, Said};
 use std::alloc::{AllocError, Global};
-use verdicts::YesNo;
 
 // The number of a claim; 0 is none.
 fn number(n: u32) -> Option<usize> {
@@ -67,12 +67,8 @@ fn changed(source: &mut Source, claim: Claim) -> Claim {
 }
 
 // A list made from a written one: some claims changed, and perhaps some at the end left out.
-fn some_claims(
-    heap: Global,
-    source: &mut Source,
-    written: &[Claim],
-) -> Result<Vec<Claim>, AllocError> {
-    let mut out = Vec::new(heap);
+fn some_claims(source: &mut Source, written: &[Claim]) -> Result<Vec<Claim>, AllocError> {
+    let mut out = Vec::new(source.heap);
     let often = written.len().saturating_mul(2).saturating_add(1);
     for c in written {
         let odd = source.index(often) < 2;
@@ -88,41 +84,35 @@ fn some_claims(
 impl<R: Reading> Trial<'_, R> {
     // Whether the library writes what the reference does, into just the room needed and one more.
     pub fn same_written(&self, heap: Global) -> Result<bool, AllocError> {
-        let written = write_claims(heap, &self.plain.formula, &self.record)?;
+        let written = self.plain.formula.write_claims(heap, &self.record)?;
         let mut room = vec![in heap; BLANK; written.len().saturating_add(1)]?;
         let count = claims::write(&self.ours, self.trace, room.as_mut_slice());
         let mut listed = plain_list(heap, room.as_slice())?;
         let kept = listed.pop() == Some(plain(BLANK));
         let refusal = self.plain.check_events(self.trace, false);
-        Ok(
-            kept && same(count, &refusal, |count, _| {
-                count == written.len() && listed.as_slice() == written.as_slice()
-            }),
-        )
+        let alike = same(count, &refusal, |count, _| {
+            count == written.len() && listed.as_slice() == written.as_slice()
+        });
+        Ok(kept && alike)
     }
 
     // Checks a list made from the library's own.
-    pub fn compare_checks(
-        &self,
-        heap: Global,
-        source: &mut Source,
-        tally: &mut Tally,
-    ) -> Result<(), AllocError> {
+    pub fn compare_checks(&self, source: &mut Source, tally: &mut Tally) -> Result<(), AllocError> {
         let total = self
             .record
             .places()
             .saturating_mul(self.plain.formula.root());
-        let mut room = vec![in heap; BLANK; total]?;
+        let mut room = vec![in source.heap; BLANK; total]?;
         let _ = claims::write(&self.ours, self.trace, room.as_mut_slice());
-        let list = some_claims(heap, source, room.as_slice())?;
-        let listed = plain_list(heap, list.as_slice())?;
-        let meant = self.plain.check_events(self.trace, false).and_then(|()| check_claims(
-            &self.plain.formula,
-            &self.record,
-            listed.as_slice(),
-        ));
+        let list = some_claims(source, room.as_slice())?;
+        let listed = plain_list(source.heap, list.as_slice())?;
+        let meant = self.plain.check_events(self.trace, false).and(
+            self.plain
+                .formula
+                .check_claims(&self.record, listed.as_slice()),
+        );
         let said = claims::check(&self.ours, self.trace, list.as_slice());
-        let alike = same(said, &meant, |v, kept| matches!(v, YesNo::Kept) == *kept);
+        let alike = same(said, &meant, |v, kept| v.grade() == Grade::from(*kept));
         tally.counts.checks.note(alike);
         if alike {
             tally.met(&meant)?;

@@ -4,7 +4,7 @@ use crate::source::Source;
 use readings::{Panel, Words};
 use reference::{Grade, Kind, Reading, Refusal, Set};
 use rules::Fault;
-use std::alloc::{AllocError, Global};
+use std::alloc::AllocError;
 
 // A reading of the library that is made from names.
 pub trait Named: readings::Reading + Copy + Drop {
@@ -79,8 +79,8 @@ pub fn same_shown<R: Named>(source: &mut Source, names: &[&[u8]], list: &[u8]) -
 }
 
 // A list of numbers, some of which no name has.
-pub fn some_numbers(heap: Global, source: &mut Source) -> Result<Vec<u8>, AllocError> {
-    let mut list = Vec::new(heap);
+pub fn some_numbers(source: &mut Source) -> Result<Vec<u8>, AllocError> {
+    let mut list = Vec::new(source.heap);
     for _ in 0..source.below(11) {
         list.push((source.below(10) & 255) as u8)?;
     }

@@ -4,7 +4,7 @@ use rules::Fault;
 use std::alloc::AllocError;
 
 fn same_refusal(fault: Fault, refusal: Refusal) -> bool {
-    fault.number() == refusal.number()
+    fault.number() == refusal.reason as u8
         && fault.layer().number() == refusal.layer() as u8
         && fault.place() == refusal.place
 }

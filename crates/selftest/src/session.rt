@@ -36,7 +36,7 @@ impl Session {
     pub fn new(heap: Global, seed: u64) -> Session {
         Session {
             heap,
-            source: Source::new(seed),
+            source: Source::new(heap, seed),
             tally: Tally::new(heap),
         }
     }
@@ -59,22 +59,20 @@ impl Session {
 
     fn texts(&mut self) -> Result<(), AllocError> {
         let shape = self.shape();
-        let text = rule_text(self.heap, &mut self.source, shape)?;
+        let text = rule_text(&mut self.source, shape)?;
         compare_text(self.heap, text.as_slice(), &mut self.tally)?;
-        let bad = spoiled(self.heap, &mut self.source, text.as_slice())?;
+        let bad = spoiled(&mut self.source, text.as_slice())?;
         compare_text(self.heap, bad.as_slice(), &mut self.tally)
     }
 
     fn lists<R: Named>(&mut self) -> Result<(), AllocError> {
-        let names = name_list(self.heap, &mut self.source)?;
+        let names = name_list(&mut self.source)?;
         let plain = Reading::new(R::KIND, names.as_slice());
-        self.tally
-            .counts
-            .lists
-            .note(same_names::<R>(names.as_slice(), &plain));
+        let alike = same_names::<R>(names.as_slice(), &plain);
+        self.tally.counts.lists.note(alike);
         self.tally.met(&plain)?;
         if R::checked(names.as_slice()).is_ok() {
-            let list = some_numbers(self.heap, &mut self.source)?;
+            let list = some_numbers(&mut self.source)?;
             let alike = same_shown::<R>(&mut self.source, names.as_slice(), list.as_slice());
             self.tally.counts.shown.note(alike);
         }
@@ -122,38 +120,33 @@ impl Session {
         let alike = trial.same_verdict::<ThreeWay>(self.heap, room)?;
         self.tally.counts.verdicts.note(alike);
         for takes_doubt in [false, true] {
-            self.tally
-                .met(&trial.plain.check_events(trial.trace, takes_doubt))?;
+            let heard = trial.plain.check_events(trial.trace, takes_doubt);
+            self.tally.met(&heard)?;
         }
         Ok(())
     }
 
     // The claims that are written, and some lists made from them.
     fn claims<R: Named>(&mut self, trial: &Trial<R>) -> Result<(), AllocError> {
-        self.tally
-            .counts
-            .written
-            .note(trial.same_written(self.heap)?);
+        let alike = trial.same_written(self.heap)?;
+        self.tally.counts.written.note(alike);
         for _ in 0..4 {
-            trial.compare_checks(self.heap, &mut self.source, &mut self.tally)?;
+            trial.compare_checks(&mut self.source, &mut self.tally)?;
         }
         Ok(())
     }
 
     fn monitor<R: Named>(&mut self, ours: BoundRule<R>, plain: &Bound) -> Result<(), AllocError> {
         let counted = answered(count_obligations(self.heap, &plain.formula))?;
-        let alike = same(
-            Monitor::check(&ours),
-            &counted,
-            |count, plain| count == *plain,
-        );
+        let count = Monitor::check(&ours);
+        let alike = same(count, &counted, |count, plain| count == *plain);
         self.tally.counts.openings.note(alike);
         self.tally.met(&counted)?;
         if counted.is_err() {
             return Ok(());
         }
         let length = self.source.below(16);
-        let calls = some_calls(self.heap, &mut self.source, R::KIND, length)?;
+        let calls = some_calls(&mut self.source, R::KIND, length)?;
         let mut book = open_book(self.heap, plain)?;
         compare_calls(
             self.heap,
@@ -175,7 +168,7 @@ impl Session {
             names: self.source.index(4).saturating_add(1),
             deep: false,
         };
-        let text = rule_text(self.heap, &mut self.source, shape)?;
+        let text = rule_text(&mut self.source, shape)?;
         let mut rule = Rule::new();
         let known = if self.source.one_in(10) {
             self.source.index(4)
@@ -229,7 +222,7 @@ impl Session {
             names: self.source.index(4).saturating_add(1),
             deep: false,
         };
-        let file = some_file(self.heap, &mut self.source, R::KIND, shape)?;
+        let file = some_file(&mut self.source, R::KIND, shape)?;
         self.report(file.as_slice())
     }
 

@@ -1,12 +1,16 @@
 // Numbers that look random: a linear congruential generator of 64 bits.
+use std::alloc::Global;
+
+// The generator, and the heap for what is made from its numbers.
 #[derive(Clone, Copy)]
 pub struct Source {
+    pub heap: Global,
     state: u64,
 }
 
 impl Source {
-    pub fn new(seed: u64) -> Source {
-        Source { state: seed }
+    pub fn new(heap: Global, seed: u64) -> Source {
+        Source { heap, state: seed }
     }
 
     // The high bits of the next state, which are the better ones.

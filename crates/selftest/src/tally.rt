@@ -66,7 +66,7 @@ impl Tally {
     // Counts the refusal of the reference, if it is one.
     pub fn met<T>(&mut self, answer: &Result<T, Refusal>) -> Result<(), AllocError> {
         if let Err(refusal) = answer {
-            let count = self.refusals.entry(refusal.number())?.or_insert(0);
+            let count = self.refusals.entry(refusal.reason as u8)?.or_insert(0);
             *count = count.saturating_add(1);
         }
         Ok(())

@@ -121,9 +121,9 @@ impl Draft {
 }
 
 // A rule text without fault, but that it may be too long or have too much in it.
-pub fn rule_text(heap: Global, source: &mut Source, shape: Shape) -> Result<Vec<u8>, AllocError> {
+pub fn rule_text(source: &mut Source, shape: Shape) -> Result<Vec<u8>, AllocError> {
     let mut draft = Draft {
-        bytes: Vec::new(heap),
+        bytes: Vec::new(source.heap),
         open: 0,
         wants_operand: true,
     };
@@ -175,10 +175,10 @@ impl Spoiling {
 }
 
 // The text with a byte changed, put in or left out, or with a name put in.
-pub fn spoiled(heap: Global, source: &mut Source, text: &[u8]) -> Result<Vec<u8>, AllocError> {
+pub fn spoiled(source: &mut Source, text: &[u8]) -> Result<Vec<u8>, AllocError> {
     let at = source.index(text.len());
     let how = source.pick(&SPOILINGS);
-    let mut out = Vec::new(heap);
+    let mut out = Vec::new(source.heap);
     for (i, b) in text.iter().enumerate() {
         if i == at {
             how.put(&mut out, source, *b)?;
@@ -190,19 +190,18 @@ pub fn spoiled(heap: Global, source: &mut Source, text: &[u8]) -> Result<Vec<u8>
 }
 
 // A list of names, most often a good one.
-pub fn name_list(heap: Global, source: &mut Source) -> Result<Vec<&'static [u8]>, AllocError> {
-    let mut names = Vec::new(heap);
+pub fn name_list(source: &mut Source) -> Result<Vec<&'static [u8]>, AllocError> {
     if source.one_in(3) {
+        let mut names = Vec::new(source.heap);
         for _ in 0..source.below(12) {
             names.push(source.pick(&ENTRIES))?;
         }
         return Ok(names);
     }
     let first = source.index(12);
-    for i in 0..source.index(10) {
-        names.push(name(first.saturating_add(i)))?;
-    }
-    Ok(names)
+    (0..source.index(10))
+        .map(|i| name(first.saturating_add(i)))
+        .collect(source.heap)
 }
 
 // The first names, so many.

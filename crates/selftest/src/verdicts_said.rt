@@ -2,7 +2,7 @@
 use crate::same::same;
 use crate::trial::Trial;
 use readings::Reading;
-use reference::{Grade, Reason, Refusal, Values, values_of};
+use reference::{Grade, Reason, Refusal, Values};
 use std::alloc::{AllocError, Global};
 use verdicts::{Scale, ThreeWay, YesNo, evaluate, valuate};
 
@@ -100,7 +100,7 @@ impl<R: Reading> Trial<'_, R> {
         room: usize,
     ) -> Result<bool, AllocError> {
         let formula = &self.plain.formula;
-        let values = values_of(heap, formula, &self.record)?;
+        let values = formula.values(heap, &self.record)?;
         let written = self.scratch(heap, &values)?;
         let mut scratch = vec![in heap; S::FILLER; room]?;
         let said = evaluate(
@@ -113,10 +113,10 @@ impl<R: Reading> Trial<'_, R> {
             Ok(_) => has_grades(scratch.as_slice(), written.as_slice()),
             Err(_) => unwritten(scratch.as_slice()),
         };
-        let meant = check_room(room, formula.root().saturating_mul(2)).map(|()| values.at(
+        let meant = check_room(room, formula.root().saturating_mul(2)).and(Ok(values.at(
             formula.root(),
             1,
-        ));
+        )));
         Ok(left && same(said, &meant, |v, grade| v.grade() == *grade))
     }
 
@@ -125,9 +125,9 @@ impl<R: Reading> Trial<'_, R> {
         let marks = self.marks(heap)?;
         let mut valuation = vec![in heap; S::FILLER; room.marks]?;
         let laid = valuate(&self.ours, self.trace, valuation.as_mut_slice());
-        let meant = check_room(room.marks, marks.len()).and_then(|()| self
-            .plain
-            .check_events(self.trace, S::UNCLEAR));
+        let meant = check_room(room.marks, marks.len()).and(
+            self.plain.check_events(self.trace, S::UNCLEAR),
+        );
         if laid.is_err() {
             return Ok(unwritten(valuation.as_slice()) && same(laid, &meant, |_, _| true));
         }
