@@ -1,6 +1,6 @@
 // Examples with known answers.
 use monitor::{Finality, Monitor};
-use readings::{BoundRule, Words};
+use readings::{BoundRule, Named, Words};
 use rules::{Fault, Rule};
 use verdicts::YesNo;
 

@@ -1,47 +1,26 @@
 // Comparing what readings say, and what they refuse.
 use crate::same::same;
 use crate::source::Source;
-use readings::{Panel, Words};
+use readings::{Named, Panel, Words};
 use reference::{Grade, Kind, Reading, Refusal, Set};
-use rules::Fault;
 use std::alloc::AllocError;
 
-// A reading of the library that is made from names.
-pub trait Named: readings::Reading + Copy + Drop {
+// A reading of the library, and its kind in the reference.
+pub trait Paired: Named + Copy + Drop {
     const KIND: Kind;
-
-    fn checked(names: &[&[u8]]) -> Result<usize, Fault>;
-
-    fn named(names: &[&[u8]]) -> Self;
 }
 
-impl Named for Words {
+impl Paired for Words {
     const KIND: Kind = Kind::Words;
-
-    fn checked(names: &[&[u8]]) -> Result<usize, Fault> {
-        Words::check(names)
-    }
-
-    fn named(names: &[&[u8]]) -> Words {
-        Words::new(names)
-    }
 }
 
-impl Named for Panel {
+impl Paired for Panel {
     const KIND: Kind = Kind::Panel;
-
-    fn checked(names: &[&[u8]]) -> Result<usize, Fault> {
-        Panel::check(names)
-    }
-
-    fn named(names: &[&[u8]]) -> Panel {
-        Panel::new(names)
-    }
 }
 
 // Whether a list of names is refused alike.
-pub fn same_names<R: Named>(names: &[&[u8]], plain: &Result<Reading, Refusal>) -> bool {
-    same(R::checked(names), plain, |count, _| count == names.len())
+pub fn same_names<R: Paired>(names: &[&[u8]], plain: &Result<Reading, Refusal>) -> bool {
+    same(R::check(names), plain, |count, _| count == names.len())
 }
 
 // A code, seldom one that the reading has not.
@@ -60,8 +39,8 @@ pub fn some_code(source: &mut Source, kind: Kind) -> u32 {
 }
 
 // Whether a reading shows the same at a code for a list of numbers, has the same sets possible and finds the same name.
-pub fn same_shown<R: Named>(source: &mut Source, names: &[&[u8]], list: &[u8]) -> bool {
-    let reading = R::named(names);
+pub fn same_shown<R: Paired>(source: &mut Source, names: &[&[u8]], list: &[u8]) -> bool {
+    let reading = R::new(names);
     let plain = Reading {
         kind: R::KIND,
         names,

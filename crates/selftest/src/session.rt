@@ -1,6 +1,6 @@
 // One case after another.
 use crate::call_lists::{compare_calls, some_calls};
-use crate::readings_shown::{Named, same_names, same_shown, some_code, some_numbers};
+use crate::readings_shown::{Paired, same_names, same_shown, some_code, some_numbers};
 use crate::reports::{same_report, some_file};
 use crate::rule_texts::compare_text;
 use crate::same::{answered, same};
@@ -65,13 +65,13 @@ impl Session {
         compare_text(self.heap, bad.as_slice(), &mut self.tally)
     }
 
-    fn lists<R: Named>(&mut self) -> Result<(), AllocError> {
+    fn lists<R: Paired>(&mut self) -> Result<(), AllocError> {
         let names = name_list(&mut self.source)?;
         let plain = Reading::new(R::KIND, names.as_slice());
         let alike = same_names::<R>(names.as_slice(), &plain);
         self.tally.counts.lists.note(alike);
         self.tally.met(&plain)?;
-        if R::checked(names.as_slice()).is_ok() {
+        if R::check(names.as_slice()).is_ok() {
             let list = some_numbers(&mut self.source)?;
             let alike = same_shown::<R>(&mut self.source, names.as_slice(), list.as_slice());
             self.tally.counts.shown.note(alike);
@@ -79,7 +79,7 @@ impl Session {
         Ok(())
     }
 
-    fn events<R: Named>(&mut self) -> Result<Vec<u32>, AllocError> {
+    fn events<R: Paired>(&mut self) -> Result<Vec<u32>, AllocError> {
         let mut events = Vec::new(self.heap);
         for _ in 0..self.source.below(8) {
             events.push(some_code(&mut self.source, R::KIND))?;
@@ -95,7 +95,7 @@ impl Session {
         needed.saturating_add(self.source.index(3))
     }
 
-    fn judge<R: Named>(&mut self, ours: BoundRule<R>, plain: &Bound) -> Result<(), AllocError> {
+    fn judge<R: Paired>(&mut self, ours: BoundRule<R>, plain: &Bound) -> Result<(), AllocError> {
         let events = self.events::<R>()?;
         let trial = Trial {
             ours,
@@ -108,7 +108,7 @@ impl Session {
     }
 
     // The verdicts on both scales; one takes doubt and refuses less.
-    fn verdicts<R: Named>(&mut self, trial: &Trial<R>) -> Result<(), AllocError> {
+    fn verdicts<R: Paired>(&mut self, trial: &Trial<R>) -> Result<(), AllocError> {
         let marks = trial.trace.len().saturating_mul(trial.plain.numbers.len());
         let nodes = trial.plain.formula.root();
         let room = Room {
@@ -127,7 +127,7 @@ impl Session {
     }
 
     // The claims that are written, and some lists made from them.
-    fn claims<R: Named>(&mut self, trial: &Trial<R>) -> Result<(), AllocError> {
+    fn claims<R: Paired>(&mut self, trial: &Trial<R>) -> Result<(), AllocError> {
         let alike = trial.same_written(self.heap)?;
         self.tally.counts.written.note(alike);
         for _ in 0..4 {
@@ -136,7 +136,7 @@ impl Session {
         Ok(())
     }
 
-    fn monitor<R: Named>(&mut self, ours: BoundRule<R>, plain: &Bound) -> Result<(), AllocError> {
+    fn monitor<R: Paired>(&mut self, ours: BoundRule<R>, plain: &Bound) -> Result<(), AllocError> {
         let counted = answered(count_obligations(self.heap, &plain.formula))?;
         let count = Monitor::check(&ours);
         let alike = same(count, &counted, |count, plain| count == *plain);
@@ -189,7 +189,7 @@ impl Session {
         }
     }
 
-    fn bind<R: Named>(&mut self) -> Result<(), AllocError> {
+    fn bind<R: Paired>(&mut self) -> Result<(), AllocError> {
         let Some(
             Subject {
                 rule,
@@ -200,7 +200,7 @@ impl Session {
         else {
             return Ok(());
         };
-        let reading = R::named(names.as_slice());
+        let reading = R::new(names.as_slice());
         let plain = Reading {
             kind: R::KIND,
             names: names.as_slice(),
@@ -216,7 +216,7 @@ impl Session {
         Ok(())
     }
 
-    fn reports<R: Named>(&mut self) -> Result<(), AllocError> {
+    fn reports<R: Paired>(&mut self) -> Result<(), AllocError> {
         let shape = Shape {
             signs: self.source.below(14),
             names: self.source.index(4).saturating_add(1),
@@ -233,7 +233,7 @@ impl Session {
     }
 
     // One case of each kind, with one kind of reading.
-    pub fn run<R: Named>(&mut self) -> Result<(), AllocError> {
+    pub fn run<R: Paired>(&mut self) -> Result<(), AllocError> {
         self.texts()?;
         self.lists::<R>()?;
         self.bind::<R>()?;
