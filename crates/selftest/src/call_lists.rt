@@ -29,6 +29,7 @@ pub fn some_calls(source: &mut Source, kind: Kind, count: u32) -> Result<Vec<Cal
     Ok(calls)
 }
 
+// Both types are other crates', so this is a function and no `From`.
 fn asked(call: Call) -> Asked {
     match call {
         Call::Event(code) => Asked::Event(code),
@@ -45,6 +46,7 @@ fn same_residual(residual: polynomials::Residual, table: &[bool]) -> bool {
     (0..=u8::MAX).all(|product| residual.bit(product) == is_term(table, product))
 }
 
+// The like.
 fn finality(finality: monitor::Finality) -> Finality {
     match finality {
         monitor::Finality::SoFar => Finality::SoFar,

@@ -5,6 +5,7 @@ use reference::{Formula, Infix, Node, Prefix, read_formula};
 use rules::{Binary, Rule, Unary};
 use std::alloc::{AllocError, Global};
 
+// Both types are other crates', so this and the next are functions and no `From`.
 fn prefix(unary: Unary) -> Prefix {
     match unary {
         Unary::Not => Prefix::Not,

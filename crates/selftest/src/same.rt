@@ -24,7 +24,7 @@ pub fn same<T: Drop, U, F: FnOnce(T, &U) -> bool>(
     }
 }
 
-// An answer or a refusal of the reference, unless memory ran out.
+// An answer or a refusal of the reference, unless memory ran out: it sorts the errors, as no `?` does.
 pub fn answered<T>(res: Result<T, Stop>) -> Result<Result<T, Refusal>, AllocError> {
     match res {
         Ok(x) => Ok(Ok(x)),

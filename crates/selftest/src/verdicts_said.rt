@@ -6,7 +6,7 @@ use reference::{Grade, Reason, Refusal, Values};
 use std::alloc::{AllocError, Global};
 use verdicts::{Scale, ThreeWay, YesNo, evaluate, valuate};
 
-// A scale, and the grades of the reference.
+// A scale, and the grades of the reference: both are other crates', so `grade` is no `From`.
 pub trait Graded: Scale + Clone + Copy + Drop {
     // Whether there is a grade for doubt.
     const UNCLEAR: bool;
