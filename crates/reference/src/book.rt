@@ -1,11 +1,14 @@
 // Calls on a monitor, by a book of the events that stand and the marks.
+use crate::bound::Bound;
 use crate::formula::Formula;
-use crate::meaning::{Record, verdict};
-use crate::reading::{Kind, numbers_of, record_of, unheard};
-use crate::refusal::{Refusal, Stop, refused, stopped};
-use crate::residue::{obligations, residue};
-use crate::rests::{Rest, all_rests, followed, letters_on, possible_sets};
+use crate::grade::Grade;
+use crate::meaning::Record;
+use crate::refusal::{Reason, Refusal, Stop};
+use crate::residue::residue;
+use crate::rests::all_rests;
+use crate::set::Set;
 use std::alloc::{AllocError, Global};
+use std::fmt;
 
 // A call: its kind, and the code of an event or of a look ahead.
 #[derive(Clone, Copy)]
@@ -18,10 +21,26 @@ pub enum Asked {
     Standing,
 }
 
+// Whether a verdict can still change.
+#[derive(Clone, Copy, PartialEq, Eq, Debug)]
+pub enum Finality {
+    SoFar,
+    ForGood,
+}
+
+impl fmt::Display for Finality {
+    fn fmt<W: fmt::Write>(&self, f: &mut fmt::Formatter<W>) -> fmt::Result {
+        f.write_str(match self {
+            Finality::SoFar => "so far",
+            Finality::ForGood => "for good",
+        })
+    }
+}
+
 #[derive(Drop)]
 pub struct Told {
-    pub kept: bool,
-    pub for_good: bool,
+    pub verdict: Grade,
+    pub finality: Finality,
     pub count: usize,
     // the value of what is left of the rule, at each set of obligations
     pub table: Vec<bool>,
@@ -30,70 +49,56 @@ pub struct Told {
 #[derive(Drop)]
 pub struct Book<'a> {
     heap: Global,
-    formula: &'a Formula,
-    kind: Kind,
-    numbers: Vec<usize>,
+    bound: &'a Bound,
     obligations: Vec<usize>,
-    rests: Vec<Rest>,
+    rests: Vec<Vec<Set>>,
     events: Vec<u32>,
     marks: Vec<usize>,
 }
 
 // How many obligations a rule has, or that they are too many.
 pub fn count_obligations(heap: Global, formula: &Formula) -> Result<usize, Stop> {
-    let count = obligations(heap, formula)?.len();
+    let count = formula.obligations(heap)?.len();
     if count > 8 {
-        return Err(stopped(16, count));
+        return Err(Reason::ManyObligations.at(count).into());
     }
     Ok(count)
 }
 
 // A book with no events.
-pub fn open_book<'a>(
-    heap: Global,
-    formula: &'a Formula,
-    kind: Kind,
-    names: &[Vec<u8>],
-) -> Result<Book<'a>, AllocError> {
-    let numbers = numbers_of(heap, formula, names)?;
-    let possible = possible_sets(heap, kind, numbers.as_slice())?;
+pub fn open_book(heap: Global, bound: &Bound) -> Result<Book<'_>, AllocError> {
+    let possible = bound.possible_sets(heap)?;
     Ok(Book {
         heap,
-        formula,
-        kind,
-        obligations: obligations(heap, formula)?,
-        rests: all_rests(heap, formula, possible.as_slice())?,
-        numbers,
+        bound,
+        obligations: bound.formula.obligations(heap)?,
+        rests: all_rests(heap, &bound.formula, &possible)?,
         events: Vec::new(heap),
         marks: Vec::new(heap),
     })
 }
 
 impl Book<'_> {
-    // The verdict on the events and a rest behind them.
-    fn verdict_with(&self, record: &Record, rest: usize) -> Result<u8, AllocError> {
-        let whole = followed(self.heap, record, self.rests.as_slice(), rest)?;
-        verdict(self.heap, self.formula, &whole)
-    }
-
-    fn settled(&self, record: &Record) -> Result<bool, AllocError> {
-        let lean = self.verdict_with(record, 0)?;
-        for rest in 0..self.rests.len() {
-            if self.verdict_with(record, rest)? != lean {
-                return Ok(false);
+    // Whether each rest behind the events leaves them their verdict.
+    fn finality(&self, record: &Record, now: Grade) -> Result<Finality, AllocError> {
+        let formula = &self.bound.formula;
+        for rest in self.rests.iter() {
+            let whole = formula.followed(self.heap, record, rest.as_slice())?;
+            if formula.verdict(self.heap, &whole)? != now {
+                return Ok(Finality::SoFar);
             }
         }
-        Ok(true)
+        Ok(Finality::ForGood)
     }
 
     fn table(&self) -> Result<Vec<bool>, AllocError> {
         let mut letters = Vec::new(self.heap);
         for code in self.events.iter() {
-            letters.push(letters_on(self.kind, self.numbers.as_slice(), *code))?;
+            letters.push(self.bound.letters_on(*code))?;
         }
         residue(
             self.heap,
-            self.formula,
+            &self.bound.formula,
             self.obligations.as_slice(),
             letters.as_slice(),
         )
@@ -101,76 +106,62 @@ impl Book<'_> {
 
     // How things stand.
     pub fn standing(&self) -> Result<Told, AllocError> {
-        let record = record_of(
-            self.heap,
-            self.kind,
-            self.numbers.as_slice(),
-            self.events.as_slice(),
-        )?;
+        let record = self.bound.record(self.heap, self.events.as_slice())?;
+        let verdict = self.bound.formula.verdict(self.heap, &record)?;
         Ok(Told {
-            kept: self.verdict_with(&record, 0)? == 2,
-            for_good: self.settled(&record)?,
+            verdict,
+            finality: self.finality(&record, verdict)?,
             count: self.events.len(),
             table: self.table()?,
         })
     }
 
     // Takes in an event, or says why not.
-    pub fn note_event(&mut self, code: u32) -> Result<Option<Refusal>, AllocError> {
+    pub fn note_event(&mut self, code: u32) -> Result<(), Stop> {
         let n = self.events.len();
         if n >= 4095 {
-            return Ok(Some(refused(12, 4096)));
+            return Err(Reason::ManyEvents.at(4096).into());
         }
-        let why = unheard(
-            self.kind,
-            self.numbers.as_slice(),
-            code,
-            n.saturating_add(1),
-            false,
-        );
-        if why.is_none() {
-            self.events.push(code)?;
-        }
-        Ok(why)
+        self.bound.check_event(code, n.saturating_add(1), false)?;
+        self.events.push(code)?;
+        Ok(())
     }
 
-    fn mark(&mut self) -> Result<Option<Refusal>, AllocError> {
+    fn mark(&mut self) -> Result<(), Stop> {
         if self.marks.len() >= 8 {
-            return Ok(Some(refused(17, 8)));
+            return Err(Reason::NinthMark.at(8).into());
         }
-        let n = self.events.len();
-        self.marks.push(n)?;
-        Ok(None)
+        self.marks.push(self.events.len())?;
+        Ok(())
     }
 
-    fn unmark(&mut self, strikes: bool) -> Option<Refusal> {
-        let Some(n) = self.marks.pop() else {
-            return Some(refused(18, 0));
-        };
-        if strikes {
-            self.events.truncate(n);
-        }
-        None
+    // Takes the last mark off: how many events it was set after.
+    fn unmark(&mut self) -> Result<usize, Refusal> {
+        self.marks.pop().ok_or(Reason::NoMark.at(0))
     }
 
     // Does what is asked, or says why not. A look ahead is done as an event here.
-    fn note(&mut self, asked: Asked) -> Result<Option<Refusal>, AllocError> {
+    fn note(&mut self, asked: Asked) -> Result<(), Stop> {
         match asked {
-            Asked::Event(code) | Asked::LookAhead(code) => self.note_event(code),
-            Asked::Mark => self.mark(),
-            Asked::Back => Ok(self.unmark(true)),
-            Asked::Keep => Ok(self.unmark(false)),
-            Asked::Standing => Ok(None),
+            Asked::Event(code) | Asked::LookAhead(code) => self.note_event(code)?,
+            Asked::Mark => self.mark()?,
+            Asked::Back => {
+                let n = self.unmark()?;
+                self.events.truncate(n);
+            }
+            Asked::Keep => {
+                let _ = self.unmark()?;
+            }
+            Asked::Standing => {}
         }
+        Ok(())
     }
 
     // The answer to a call.
     pub fn ask(&mut self, asked: Asked) -> Result<Told, Stop> {
-        if let Some(why) = self.note(asked)? {
-            return Err(Stop::Refusal(why));
-        }
+        self.note(asked)?;
         let told = self.standing()?;
-        if let Asked::LookAhead(_) = asked {
+        if matches!(asked, Asked::LookAhead(_)) {
             let _ = self.events.pop();
         }
         Ok(told)

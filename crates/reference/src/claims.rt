@@ -1,23 +1,73 @@
 // Claims: which are supported, and those that are written.
 use crate::formula::{Formula, Node};
-use crate::meaning::{Record, Values, values_of};
-use crate::refusal::{Refusal, refused};
-use crate::sign::Sign;
+use crate::grade::Grade;
+use crate::meaning::{Record, Values};
+use crate::numbered::numbered;
+use crate::refusal::{Reason, Refusal};
+use crate::sign::{Infix, Prefix};
 use std::alloc::{AllocError, Global};
+use std::fmt;
+use std::ops::Not;
 
+// What a claim says: whether a node holds at a place.
 #[derive(Clone, Copy, PartialEq, Eq, Debug)]
-pub struct Claimed {
+pub struct Said {
     pub place: usize,
     pub node: usize,
     pub holds: bool,
-    pub first: usize,
-    pub second: usize,
+}
+
+impl Said {
+    // The like of another node at the same place.
+    fn here(self, node: usize, holds: bool) -> Said {
+        Said {
+            place: self.place,
+            node,
+            holds,
+        }
+    }
+
+    // The like of a node at the next place.
+    fn after(self, node: usize, holds: bool) -> Said {
+        Said {
+            place: self.place.saturating_add(1),
+            node,
+            holds,
+        }
+    }
+}
+
+// The contrary.
+impl Not for Said {
+    type Output = Said;
+
+    fn not(self) -> Said {
+        self.here(self.node, !self.holds)
+    }
+}
+
+// A claim, and the numbers of those that it rests on.
+#[derive(Clone, Copy, PartialEq, Eq, Debug)]
+pub struct Claimed {
+    pub said: Said,
+    pub first: Option<usize>,
+    pub second: Option<usize>,
+}
+
+impl fmt::Display for Claimed {
+    fn fmt<W: fmt::Write>(&self, f: &mut fmt::Formatter<W>) -> fmt::Result {
+        let place = self.said.place;
+        let node = self.said.node;
+        let holds = u8::from(self.said.holds);
+        let first = self.first.unwrap_or(0);
+        let second = self.second.unwrap_or(0);
+        write!(f, "{place}\t{node}\t{holds}\t{first}\t{second}")
+    }
 }
 
 // The claims before one, and that one.
 #[derive(Clone, Copy)]
 struct Case<'a> {
-    formula: &'a Formula,
     record: &'a Record,
     earlier: &'a [Claimed],
     claim: Claimed,
@@ -25,248 +75,236 @@ struct Case<'a> {
 
 impl Case<'_> {
     // Whether the earlier claim of this number says this.
-    fn says(&self, number: usize, place: usize, node: usize, holds: bool) -> bool {
-        match self.earlier.get(number.wrapping_sub(1)) {
-            Some(c) => c.place == place && c.node == node && c.holds == holds,
-            None => false,
-        }
+    fn says(&self, number: Option<usize>, said: Said) -> bool {
+        number
+            .and_then(|n| numbered(self.earlier, n))
+            .is_some_and(|c| c.said == said)
     }
 
-    // Whether the claim rests on nothing.
-    fn bare(&self) -> bool {
-        self.claim.first == 0 && self.claim.second == 0
+    // Whether the claim rests on nothing, and says that its node holds or not.
+    fn bare(&self, holds: bool) -> bool {
+        self.claim.first.is_none() && self.claim.second.is_none() && self.claim.said.holds == holds
     }
 
     // Whether it rests on this alone.
-    fn one(&self, place: usize, node: usize, holds: bool) -> bool {
-        self.says(self.claim.first, place, node, holds) && self.claim.second == 0
+    fn one(&self, x: Said) -> bool {
+        self.says(self.claim.first, x) && self.claim.second.is_none()
     }
 
-    // Whether it rests on these two, x here.
-    fn two(&self, x: usize, sx: bool, place: usize, y: usize, sy: bool) -> bool {
-        let c = self.claim;
-        self.says(c.first, c.place, x, sx) && self.says(c.second, place, y, sy)
+    // Whether it rests on these two.
+    fn two(&self, x: Said, y: Said) -> bool {
+        self.says(self.claim.first, x) && self.says(self.claim.second, y)
     }
 
-    // A two-operand node with the value `both` exactly if x has the value sx and y the value sy.
-    fn joined(&self, x: usize, sx: bool, y: usize, sy: bool, both: bool) -> bool {
-        let p = self.claim.place;
-        if self.claim.holds == both {
-            self.two(x, sx, p, y, sy)
+    // A node with the value `both` exactly if x and y are so.
+    fn joined(&self, x: Said, y: Said, both: bool) -> bool {
+        if self.claim.said.holds == both {
+            self.two(x, y)
         } else {
-            self.one(p, x, !sx) || self.one(p, y, !sy)
+            self.one(!x) || self.one(!y)
         }
     }
 
     // Two operands with the same value if `same`, else with two values.
     fn matched(&self, x: usize, y: usize, same: bool) -> bool {
-        let p = self.claim.place;
-        self.two(x, true, p, y, same) || self.two(x, false, p, y, !same)
-    }
-
-    // `[]X` where `all`, else `<>X`, at an event.
-    fn ranged(&self, x: usize, all: bool) -> bool {
-        let c = self.claim;
-        let p = c.place;
-        let q = p.saturating_add(1);
-        if c.holds == all {
-            self.two(x, all, q, c.node, all)
-        } else {
-            self.one(p, x, !all) || self.one(q, c.node, !all)
-        }
+        let c = self.claim.said;
+        self.two(c.here(x, true), c.here(y, same)) || self.two(c.here(x, false), c.here(y, !same))
     }
 
     fn until(&self, x: usize, y: usize) -> bool {
-        let c = self.claim;
-        let p = c.place;
-        let q = p.saturating_add(1);
+        let c = self.claim.said;
+        let next = c.after(c.node, c.holds);
         if c.holds {
-            self.one(p, y, true) || self.two(x, true, q, c.node, true)
+            self.one(c.here(y, true)) || self.two(c.here(x, true), next)
         } else {
-            self.two(y, false, p, x, false) || self.two(y, false, q, c.node, false)
+            self.two(c.here(y, false), c.here(x, false)) || self.two(c.here(y, false), next)
         }
     }
 
-    // The operators that look ahead, at an event.
-    fn ahead(&self, node: Node) -> bool {
-        let c = self.claim;
-        match node.sign {
-            Sign::Next => self.one(c.place.saturating_add(1), node.left, c.holds),
-            Sign::Always => self.ranged(node.left, true),
-            Sign::Eventually => self.ranged(node.left, false),
-            _ => self.until(node.left, node.right),
+    // Whether the claim is about the empty rest.
+    fn at_rest(&self) -> bool {
+        self.claim.said.place > self.record.events.len()
+    }
+
+    fn prefix(&self, prefix: Prefix, x: usize) -> bool {
+        let c = self.claim.said;
+        match prefix {
+            Prefix::Not => self.one(c.here(x, !c.holds)),
+            _ if self.at_rest() => self.bare(prefix == Prefix::Always),
+            Prefix::Next => self.one(c.after(x, c.holds)),
+            Prefix::Always => self.joined(c.here(x, true), c.after(c.node, true), true),
+            Prefix::Eventually => self.joined(c.here(x, false), c.after(c.node, false), false),
         }
     }
 
-    // The same at any place.
-    fn further(&self, node: Node) -> bool {
-        if self.claim.place <= self.record.events {
-            self.ahead(node)
-        } else {
-            let always = matches!(node.sign, Sign::Always);
-            self.bare() && self.claim.holds == always
+    fn infix(&self, infix: Infix, x: usize, y: usize) -> bool {
+        let c = self.claim.said;
+        match infix {
+            Infix::And => self.joined(c.here(x, true), c.here(y, true), true),
+            Infix::Or => self.joined(c.here(x, false), c.here(y, false), false),
+            Infix::Implies => self.joined(c.here(x, true), c.here(y, false), false),
+            Infix::Xor => self.matched(x, y, !c.holds),
+            Infix::Iff => self.matched(x, y, c.holds),
+            Infix::Until if self.at_rest() => self.bare(false),
+            Infix::Until => self.until(x, y),
         }
     }
 
-    fn supported(&self) -> bool {
-        let c = self.claim;
-        let node = self.formula.node(c.node);
-        let x = node.left;
-        let y = node.right;
-        match node.sign {
-            Sign::Name => self.bare() && c.holds == (self.record.mark(c.place, node.letter) == 2),
-            Sign::True => self.bare() && c.holds,
-            Sign::False => self.bare() && !c.holds,
-            Sign::Not => self.one(c.place, x, !c.holds),
-            Sign::And => self.joined(x, true, y, true, true),
-            Sign::Or => self.joined(x, false, y, false, false),
-            Sign::Implies => self.joined(x, true, y, false, false),
-            Sign::Xor => self.matched(x, y, !c.holds),
-            Sign::Iff => self.matched(x, y, c.holds),
-            _ => self.further(node),
+    // Whether the claim, which is about this node, is supported.
+    fn supported(&self, node: Node) -> bool {
+        match node {
+            Node::Letter(letter) => {
+                self.bare(self.record.mark(self.claim.said.place, letter) == Grade::Kept)
+            }
+            Node::Truth(value) => self.bare(value),
+            Node::Prefix(prefix, x) => self.prefix(prefix, x),
+            Node::Infix(infix, x, y) => self.infix(infix, x, y),
         }
     }
 
-    // Whether the claim is about a node at a place of the record.
-    fn placed(&self) -> bool {
-        let c = self.claim;
+    // Whether it is about a node of the rule at a place of the record, and is supported.
+    fn accepted(&self, formula: &Formula) -> bool {
+        let c = self.claim.said;
         c.place >= 1
-            && c.place.saturating_sub(1) <= self.record.events
-            && c.node >= 1
-            && c.node <= self.formula.root()
+            && c.place <= self.record.places()
+            && numbered(formula.nodes.as_slice(), c.node).is_some_and(|n| self.supported(*n))
     }
 }
 
-// CHECKS a list of claims on a record: whether the rule is kept.
-pub fn check_claims<'a>(
-    formula: &'a Formula,
-    record: &'a Record,
-    claims: &'a [Claimed],
-) -> Result<bool, Refusal> {
-    let Some(last) = claims.last() else {
-        return Err(refused(20, 0));
-    };
-    if last.node != formula.root() || last.place != 1 {
-        return Err(refused(20, claims.len()));
-    }
-    for i in 0..claims.len() {
-        let case = Case {
-            formula,
-            record,
-            earlier: &claims[0..i],
-            claim: claims[i],
-        };
-        if !case.placed() || !case.supported() {
-            return Err(refused(19, i.saturating_add(1)));
+impl Formula {
+    // CHECKS a list of claims on a record: whether the rule is kept.
+    pub fn check_claims(&self, record: &Record, claims: &[Claimed]) -> Result<bool, Refusal> {
+        let last = claims.last().ok_or(Reason::BadEnd.at(0))?.said;
+        if last.node != self.root() || last.place != 1 {
+            return Err(Reason::BadEnd.at(claims.len()));
         }
+        for (i, claim) in claims.iter().enumerate() {
+            let case = Case {
+                record,
+                earlier: &claims[..i],
+                claim: *claim,
+            };
+            if !case.accepted(self) {
+                return Err(Reason::Unsupported.at(i.saturating_add(1)));
+            }
+        }
+        Ok(last.holds)
     }
-    Ok(last.holds)
+
+    // WRITES the claims on all nodes at all places of a record.
+    pub fn write_claims(&self, heap: Global, record: &Record) -> Result<Vec<Claimed>, AllocError> {
+        let values = self.values(heap, record)?;
+        let writer = Writer {
+            root: self.root(),
+            values: &values,
+            events: record.events.len(),
+        };
+        let mut out = Vec::new(heap);
+        for place in (1..=record.places()).rev() {
+            for (i, node) in self.nodes.iter().enumerate() {
+                out.push(writer.claim(place, i.saturating_add(1), *node))?;
+            }
+        }
+        Ok(out)
+    }
 }
+
+// The numbers of the claims that one rests on.
+type Grounds = (Option<usize>, Option<usize>);
 
 // What a written list is made from.
 #[derive(Clone, Copy)]
 struct Writer<'a> {
-    formula: &'a Formula,
+    root: usize,
     values: &'a Values,
     events: usize,
 }
 
 impl Writer<'_> {
+    fn is_so(&self, said: Said) -> bool {
+        self.values.holds(said.node, said.place) == said.holds
+    }
+
     // The number of the claim on a node at a place.
-    fn number(&self, place: usize, node: usize) -> usize {
-        let before = self.events.saturating_add(1).saturating_sub(place);
-        before
-            .saturating_mul(self.formula.root())
-            .saturating_add(node)
+    fn number(&self, said: Said) -> Option<usize> {
+        let before = self.events.saturating_add(1).saturating_sub(said.place);
+        Some(before.saturating_mul(self.root).saturating_add(said.node))
     }
 
-    // The first of two single supports if it has this sign, else the second.
-    fn either(&self, p: usize, x: usize, sx: bool, q: usize, y: usize) -> (usize, usize) {
-        if self.values.holds(x, p) == sx {
-            (self.number(p, x), 0)
+    fn one(&self, x: Said) -> Grounds {
+        (self.number(x), None)
+    }
+
+    fn two(&self, x: Said, y: Said) -> Grounds {
+        (self.number(x), self.number(y))
+    }
+
+    // A node with the value `both` exactly if x and y are so: else it rests on the first that is not.
+    fn joined(&self, c: Said, x: Said, y: Said, both: bool) -> Grounds {
+        if c.holds == both {
+            self.two(x, y)
+        } else if self.is_so(!x) {
+            self.one(x)
         } else {
-            (self.number(q, y), 0)
+            self.one(y)
         }
     }
 
-    fn pair(&self, p: usize, x: usize, q: usize, y: usize) -> (usize, usize) {
-        (self.number(p, x), self.number(q, y))
-    }
-
-    fn until(&self, p: usize, j: usize, node: Node) -> (usize, usize) {
-        let q = p.saturating_add(1);
-        if self.values.holds(node.right, p) {
-            (self.number(p, node.right), 0)
-        } else if self.values.holds(j, p) {
-            self.pair(p, node.left, q, j)
-        } else if !self.values.holds(node.left, p) {
-            self.pair(p, node.right, p, node.left)
+    fn until(&self, c: Said, x: usize, y: usize) -> Grounds {
+        let next = c.after(c.node, c.holds);
+        if self.is_so(c.here(y, true)) {
+            self.one(c.here(y, true))
+        } else if c.holds {
+            self.two(c.here(x, true), next)
+        } else if self.is_so(c.here(x, false)) {
+            self.two(c.here(y, false), c.here(x, false))
         } else {
-            self.pair(p, node.right, q, j)
+            self.two(c.here(y, false), next)
         }
     }
 
-    fn ahead(&self, p: usize, j: usize, node: Node) -> (usize, usize) {
-        let q = p.saturating_add(1);
-        let x = node.left;
-        if p > self.events {
-            return (0, 0);
-        }
-        match (node.sign, self.values.holds(j, p)) {
-            (Sign::Next, _) => (self.number(q, x), 0),
-            (Sign::Always, true) | (Sign::Eventually, false) => self.pair(p, x, q, j),
-            (Sign::Always, false) => self.either(p, x, false, q, j),
-            (Sign::Eventually, true) => self.either(p, x, true, q, j),
-            _ => self.until(p, j, node),
+    fn prefix(&self, c: Said, prefix: Prefix, x: usize) -> Grounds {
+        match prefix {
+            Prefix::Not => self.one(c.here(x, !c.holds)),
+            _ if c.place > self.events => (None, None),
+            Prefix::Next => self.one(c.after(x, c.holds)),
+            Prefix::Always => self.joined(c, c.here(x, true), c.after(c.node, true), true),
+            Prefix::Eventually => self.joined(c, c.here(x, false), c.after(c.node, false), false),
         }
     }
 
-    // The two numbers that the claim on node j at place p rests on.
-    fn grounds(&self, p: usize, j: usize) -> (usize, usize) {
-        let node = self.formula.node(j);
-        let x = node.left;
-        let y = node.right;
-        match (node.sign, self.values.holds(j, p)) {
-            (Sign::Name | Sign::True | Sign::False, _) => (0, 0),
-            (Sign::Not, _) => (self.number(p, x), 0),
-            (Sign::Xor | Sign::Iff, _) => self.pair(p, x, p, y),
-            (Sign::And, true) | (Sign::Or | Sign::Implies, false) => self.pair(p, x, p, y),
-            (Sign::And, false) | (Sign::Implies, true) => self.either(p, x, false, p, y),
-            (Sign::Or, true) => self.either(p, x, true, p, y),
-            _ => self.ahead(p, j, node),
+    fn infix(&self, c: Said, infix: Infix, x: usize, y: usize) -> Grounds {
+        match infix {
+            Infix::And => self.joined(c, c.here(x, true), c.here(y, true), true),
+            Infix::Or => self.joined(c, c.here(x, false), c.here(y, false), false),
+            Infix::Implies => self.joined(c, c.here(x, true), c.here(y, false), false),
+            Infix::Xor | Infix::Iff => self.two(c.here(x, true), c.here(y, true)),
+            Infix::Until if c.place > self.events => (None, None),
+            Infix::Until => self.until(c, x, y),
         }
     }
 
-    fn claim(&self, place: usize, node: usize) -> Claimed {
-        let (first, second) = self.grounds(place, node);
-        Claimed {
+    // What a claim on this node rests on.
+    fn grounds(&self, c: Said, node: Node) -> Grounds {
+        match node {
+            Node::Letter(_) | Node::Truth(_) => (None, None),
+            Node::Prefix(prefix, x) => self.prefix(c, prefix, x),
+            Node::Infix(infix, x, y) => self.infix(c, infix, x, y),
+        }
+    }
+
+    // The claim on a node, which has this number, at a place.
+    fn claim(&self, place: usize, number: usize, node: Node) -> Claimed {
+        let said = Said {
             place,
-            node,
-            holds: self.values.holds(node, place),
+            node: number,
+            holds: self.values.holds(number, place),
+        };
+        let (first, second) = self.grounds(said, node);
+        Claimed {
+            said,
             first,
             second,
         }
     }
-}
-
-// WRITES the claims on all nodes at all places.
-pub fn write_claims(
-    heap: Global,
-    formula: &Formula,
-    record: &Record,
-) -> Result<Vec<Claimed>, AllocError> {
-    let values = values_of(heap, formula, record)?;
-    let writer = Writer {
-        formula,
-        values: &values,
-        events: record.events,
-    };
-    let mut out = Vec::new(heap);
-    let places = record.events.saturating_add(1);
-    for i in 0..places {
-        for j in 0..formula.root() {
-            out.push(writer.claim(places.saturating_sub(i), j.saturating_add(1)))?;
-        }
-    }
-    Ok(out)
 }

@@ -1,264 +1,197 @@
 // The report on a whole file.
 use crate::book::open_book;
-use crate::bytes::{byte_at, part, same_bytes};
-use crate::claims::write_claims;
-use crate::formula::{Formula, read_formula};
-use crate::meaning::{Record, verdict};
-use crate::reading::{Kind, find, numbers_of, record_of, some_doubt, unbound, unnamed};
-use crate::refusal::{Refusal, Stop, refused};
-use crate::residue::obligations;
+use crate::bound::Bound;
+use crate::formula::read_formula;
+use crate::meaning::Record;
+use crate::reading::{Kind, Reading};
+use crate::refusal::{Reason, Refusal, Stop};
 use std::alloc::{AllocError, Global};
 
-// The bytes between stops, and what stands behind the last one.
-fn pieces(heap: Global, bytes: &[u8], stop: u8) -> Result<Vec<Vec<u8>>, AllocError> {
-    let mut out = Vec::new(heap);
-    let mut from: usize = 0;
-    for i in 0..bytes.len() {
-        if bytes[i] == stop {
-            out.push(Vec::from_slice(heap, part(bytes, from, i))?)?;
-            from = i.saturating_add(1);
-        }
-    }
-    out.push(Vec::from_slice(heap, part(bytes, from, bytes.len()))?)?;
-    Ok(out)
+const OUT_OF_FORM: Refusal = Refusal {
+    reason: Reason::OutOfForm,
+    place: 0,
+};
+
+// The parts of a line, which tabs keep apart.
+fn fields(heap: Global, line: &[u8]) -> Result<Vec<&[u8]>, AllocError> {
+    line.split(|b| *b == b'\t').collect(heap)
 }
 
 // A number up to 255 in decimals.
-fn decimal(digits: &[u8]) -> Option<u32> {
-    if digits.is_empty() || digits.len() > 3 || (digits.len() > 1 && byte_at(digits, 0) == b'0') {
+fn decimal(digits: &[u8]) -> Option<u8> {
+    if matches!(digits, [b'0', _, ..]) || !digits.iter().all(|d| d.is_ascii_digit()) {
         return None;
     }
-    let mut n: u32 = 0;
-    for d in digits {
-        if !matches!(*d, b'0'..=b'9') {
-            return None;
-        }
-        n = n
-            .wrapping_mul(10)
-            .wrapping_add(u32::from(d.wrapping_sub(b'0')));
-    }
-    if n > 255 { None } else { Some(n) }
+    str::from_utf8(digits).ok()?.parse().ok()
 }
 
-// What a file holds as far as it was read, and the line that is read.
-#[derive(Drop)]
-struct File {
-    lines: Vec<Vec<u8>>,
+// The lines of a file, what stands behind the last of them, and the number of the one that is read.
+#[derive(Clone, Copy)]
+struct Lines<'a> {
+    lines: &'a [&'a [u8]],
+    last: &'a [u8],
     at: usize,
-    kind: Kind,
-    names: Vec<Vec<u8>>,
-    events: Vec<u32>,
 }
 
-fn line_of(lines: &[Vec<u8>], number: usize) -> &[u8] {
-    match lines.get(number.wrapping_sub(1)) {
-        Some(line) => line.as_slice(),
-        None => &[],
-    }
-}
-
-impl File {
-    // The line of this number, which is then the one that is read.
-    fn line(&mut self, number: usize) -> Result<&[u8], Refusal> {
-        self.at = number;
-        if number >= self.lines.len() {
-            return Err(refused(21, 0));
-        }
-        Ok(line_of(self.lines.as_slice(), number))
+impl<'a> Lines<'a> {
+    fn next(&mut self) -> Result<&'a [u8], Refusal> {
+        let line = self.lines.get(self.at).copied();
+        self.at = self.at.saturating_add(1);
+        line.ok_or(OUT_OF_FORM)
     }
 
-    fn read_kind(&mut self) -> Result<(), Refusal> {
-        let line = self.line(1)?;
-        if same_bytes(line, b"reading\twords") {
-            self.kind = Kind::Words;
-        } else if same_bytes(line, b"reading\tpanel") {
-            self.kind = Kind::Panel;
-        } else {
-            return Err(refused(21, 0));
+    fn read_kind(&mut self) -> Result<Kind, Refusal> {
+        match self.next()? {
+            b"reading\twords" => Ok(Kind::Words),
+            b"reading\tpanel" => Ok(Kind::Panel),
+            _ => Err(OUT_OF_FORM),
         }
-        Ok(())
     }
 
-    fn read_names(&mut self, heap: Global) -> Result<(), Stop> {
-        let mut names = pieces(heap, self.line(2)?, b'\t')?;
-        if !same_bytes(line_of(names.as_slice(), 1), b"names") {
-            return Err(Stop::Refusal(refused(21, 0)));
+    fn read_names(&mut self, heap: Global) -> Result<Vec<&'a [u8]>, Stop> {
+        let mut fields = self.next()?.split(|b| *b == b'\t');
+        if fields.next() != Some(b"names") {
+            return Err(OUT_OF_FORM.into());
         }
-        names.reverse();
-        let _ = names.pop();
-        names.reverse();
-        if let Some(why) = unnamed(self.kind, names.as_slice()) {
-            return Err(Stop::Refusal(why));
-        }
-        self.names = names;
-        Ok(())
+        Ok(fields.collect(heap)?)
     }
 
-    fn read_rule(&mut self, heap: Global) -> Result<Formula, Stop> {
-        let line = self.line(3)?;
-        if !same_bytes(part(line, 0, 5), b"rule\t") {
-            return Err(Stop::Refusal(refused(21, 0)));
-        }
-        let formula = read_formula(heap, part(line, 5, line.len()))?;
-        if let Some(why) = unbound(&formula, self.names.as_slice()) {
-            return Err(Stop::Refusal(why));
-        }
-        Ok(formula)
-    }
-
-    // The code of an event from the fields of its line.
-    fn code(&self, fields: &[Vec<u8>]) -> Option<u32> {
-        if !same_bytes(line_of(fields, 1), b"event") {
-            return None;
-        }
-        if self.kind == Kind::Words {
-            let number = find(self.names.as_slice(), line_of(fields, 2));
-            return if fields.len() == 2 {
-                Some((number & 255) as u32)
-            } else {
-                None
-            };
-        }
-        if fields.len() != 3 {
-            return None;
-        }
-        let levels = decimal(line_of(fields, 2))?;
-        let answers = decimal(line_of(fields, 3))?;
-        Some(answers.wrapping_mul(256).wrapping_add(levels))
-    }
-
-    fn read_event(&mut self, heap: Global, number: usize) -> Result<(), Stop> {
-        let fields = pieces(heap, self.line(number)?, b'\t')?;
-        let Some(code) = self.code(fields.as_slice()) else {
-            return Err(Stop::Refusal(refused(21, 0)));
-        };
-        if self.events.len() >= 4095 {
-            return Err(Stop::Refusal(refused(12, 4096)));
-        }
-        self.events.push(code)?;
-        Ok(())
+    fn read_rule(&mut self, heap: Global, reading: Reading) -> Result<Bound, Stop> {
+        let text = self.next()?.strip_prefix(b"rule\t").ok_or(OUT_OF_FORM)?;
+        reading.bind(heap, read_formula(heap, text)?)
     }
 
     // All events, and the end of the file.
-    fn read_events(&mut self, heap: Global) -> Result<(), Stop> {
-        let last = self.lines.len();
-        for number in 4..last {
-            self.read_event(heap, number)?;
+    fn read_events(&mut self, heap: Global, reading: Reading) -> Result<Vec<u32>, Stop> {
+        let mut events = Vec::new(heap);
+        for line in self.lines.iter().skip(3) {
+            self.at = self.at.saturating_add(1);
+            let code = event_code(heap, reading, line)?;
+            if events.len() >= 4095 {
+                return Err(Reason::ManyEvents.at(4096).into());
+            }
+            events.push(code)?;
         }
-        if !line_of(self.lines.as_slice(), last).is_empty() {
-            self.at = last;
-            return Err(Stop::Refusal(refused(21, 0)));
+        self.at = self.at.saturating_add(1);
+        if !self.last.is_empty() {
+            return Err(OUT_OF_FORM.into());
+        }
+        Ok(events)
+    }
+}
+
+// The code of an event from its line.
+fn event_code(heap: Global, reading: Reading, line: &[u8]) -> Result<u32, Stop> {
+    let fields = fields(heap, line)?;
+    let code = match (reading.kind, fields.as_slice()) {
+        (Kind::Words, [b"event", name]) => Some(word_code(reading, name)),
+        (Kind::Panel, [b"event", levels, answers]) => panel_code(levels, answers),
+        _ => None,
+    };
+    Ok(code.ok_or(OUT_OF_FORM)?)
+}
+
+// The number of a word, 0 for one that is no name.
+fn word_code(reading: Reading, name: &[u8]) -> u32 {
+    (reading.find(name).unwrap_or(0) & 255) as u32
+}
+
+fn panel_code(levels: &[u8], answers: &[u8]) -> Option<u32> {
+    Some(u32::from(decimal(answers)?) * 256 + u32::from(decimal(levels)?))
+}
+
+// What a file holds.
+#[derive(Drop)]
+struct File {
+    bound: Bound,
+    events: Vec<u32>,
+}
+
+fn read_file(heap: Global, lines: &mut Lines) -> Result<File, Stop> {
+    let kind = lines.read_kind()?;
+    let names = lines.read_names(heap)?;
+    let reading = Reading::new(kind, names.as_slice())?;
+    Ok(File {
+        bound: lines.read_rule(heap, reading)?,
+        events: lines.read_events(heap, reading)?,
+    })
+}
+
+impl File {
+    // What the monitor says, as it is printed.
+    fn push_watched(&self, heap: Global, out: &mut String) -> Result<(), Stop> {
+        if self.bound.formula.obligations(heap)?.len() > 8 {
+            out.push_str("watch\tnone\n")?;
+            return Ok(());
+        }
+        let mut book = open_book(heap, &self.bound)?;
+        for code in self.events.iter() {
+            book.note_event(*code)?;
+        }
+        let told = book.standing()?;
+        let verdict = told.verdict;
+        let finality = told.finality;
+        write!(out, "watch\t{verdict} {finality}\n")?;
+        Ok(())
+    }
+
+    fn push_claims(
+        &self,
+        heap: Global,
+        record: &Record,
+        out: &mut String,
+    ) -> Result<(), AllocError> {
+        for claim in self.bound.formula.write_claims(heap, record)? {
+            write!(out, "claim\t{claim}\n")?;
         }
         Ok(())
     }
 
-    fn read_all(&mut self, heap: Global) -> Result<Formula, Stop> {
-        self.read_kind()?;
-        self.read_names(heap)?;
-        let formula = self.read_rule(heap)?;
-        self.read_events(heap)?;
-        Ok(formula)
-    }
-
-    // What the monitor says, as it is printed.
-    fn watched(&self, heap: Global, formula: &Formula) -> Result<&'static str, AllocError> {
-        if obligations(heap, formula)?.len() > 8 {
-            return Ok("watch\tnone\n");
-        }
-        let mut book = open_book(heap, formula, self.kind, self.names.as_slice())?;
-        for code in self.events.iter() {
-            let _ = book.note_event(*code)?;
-        }
-        let told = book.standing()?;
-        Ok(match (told.kept, told.for_good) {
-            (true, true) => "watch\tkept for good\n",
-            (true, false) => "watch\tkept so far\n",
-            (false, true) => "watch\tbroken for good\n",
-            (false, false) => "watch\tbroken so far\n",
-        })
-    }
-
-    fn record(&self, heap: Global, numbers: &[usize]) -> Result<Record, AllocError> {
-        record_of(heap, self.kind, numbers, self.events.as_slice())
-    }
-
     // The report on a file without faults.
-    fn judged(&mut self, heap: Global, formula: &Formula) -> Result<String, Stop> {
-        let numbers = numbers_of(heap, formula, self.names.as_slice())?;
-        let record = self.record(heap, numbers.as_slice())?;
-        let mut out = String::from_str(heap, verdict_line(verdict(heap, formula, &record)?))?;
-        if some_doubt(self.kind, numbers.as_slice(), self.events.as_slice()) {
+    fn judged(&self, heap: Global) -> Result<String, Stop> {
+        let formula = &self.bound.formula;
+        let record = self.bound.record(heap, self.events.as_slice())?;
+        let verdict = formula.verdict(heap, &record)?;
+        let mut out = format!(in heap; "verdict\t{verdict}\n")?;
+        if self.bound.some_doubt(self.events.as_slice()) {
             out.push_str("watch\tnone\n")?;
             return Ok(out);
         }
-        let claims = record
-            .events
-            .saturating_add(1)
-            .saturating_mul(formula.root());
+        let claims = record.places().saturating_mul(formula.root());
         if claims > 3200 {
-            self.at = 0;
-            return Err(Stop::Refusal(refused(15, claims)));
+            return Err(Reason::ShortBuffer.at(claims).into());
         }
-        out.push_str(self.watched(heap, formula)?)?;
-        push_claims(heap, formula, &record, &mut out)?;
+        self.push_watched(heap, &mut out)?;
+        self.push_claims(heap, &record, &mut out)?;
         Ok(out)
     }
 }
 
-fn verdict_line(grade: u8) -> &'static str {
-    match grade {
-        0 => "verdict\tbroken\n",
-        1 => "verdict\tunclear\n",
-        _ => "verdict\tkept\n",
-    }
-}
-
-fn push_claims(
-    heap: Global,
-    formula: &Formula,
-    record: &Record,
-    out: &mut String,
-) -> Result<(), AllocError> {
-    let claims = write_claims(heap, formula, record)?;
-    for c in claims.iter() {
-        let place = c.place;
-        let node = c.node;
-        let sign = if c.holds { 1 } else { 0 };
-        let first = c.first;
-        let second = c.second;
-        let line = format!(in heap; "claim\t{place}\t{node}\t{sign}\t{first}\t{second}\n")?;
-        out.push_str(line.as_str())?;
-    }
-    Ok(())
-}
-
 fn fault_line(heap: Global, why: Refusal, line: usize) -> Result<String, AllocError> {
-    let number = why.number;
-    let layer = why.layer;
-    let place = why.place;
-    format!(in heap; "fault\t{number}\t{layer}\t{place}\t{line}\n")
+    format!(in heap; "fault\t{why}\t{line}\n")
 }
 
-fn judge(heap: Global, file: &mut File) -> Result<String, Stop> {
-    let formula = file.read_all(heap)?;
-    file.judged(heap, &formula)
+fn judge(heap: Global, lines: &mut Lines) -> Result<String, Stop> {
+    let file = read_file(heap, lines)?;
+    // what is refused from here on is in no line
+    lines.at = 0;
+    file.judged(heap)
 }
 
 // THE REPORT on a file.
 pub fn report(heap: Global, bytes: &[u8]) -> Result<String, AllocError> {
     if bytes.len() > 60_000 {
-        return fault_line(heap, refused(21, 0), 0);
+        return fault_line(heap, OUT_OF_FORM, 0);
     }
-    let mut file = File {
-        lines: pieces(heap, bytes, b'\n')?,
+    let mut pieces: Vec<&[u8]> = bytes.split(|b| *b == b'\n').collect(heap)?;
+    let last = pieces.pop().unwrap_or(&[]);
+    let mut lines = Lines {
+        lines: pieces.as_slice(),
+        last,
         at: 0,
-        kind: Kind::Words,
-        names: Vec::new(heap),
-        events: Vec::new(heap),
     };
-    match judge(heap, &mut file) {
-        Ok(text) => Ok(text),
-        Err(Stop::Refusal(why)) => fault_line(heap, why, file.at),
-        Err(Stop::Memory) => Err(AllocError),
-    }
+    judge(heap, &mut lines).or_else(|stop| match stop {
+        Stop::Refusal(why) => fault_line(heap, why, lines.at),
+        Stop::Memory(why) => Err(why),
+    })
 }

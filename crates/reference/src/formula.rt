@@ -1,18 +1,16 @@
 // A rule as a list of nodes, operands first.
-use crate::bytes::part;
 use crate::refusal::Stop;
 use crate::scan::{Scan, scanned};
-use crate::sign::{Sign, groups_right, level};
+use crate::sign::{Infix, Prefix, Sign};
 use std::alloc::{AllocError, Global};
 
-// A name, a constant or an operator. `letter` is the number of a name's letter, `left` and `right` are the numbers of the
-// operands. All count from 1, and 0 is none; an operator before one operand has it as `left`.
-#[derive(Clone, Copy)]
-pub struct Node {
-    pub sign: Sign,
-    pub letter: usize,
-    pub left: usize,
-    pub right: usize,
+// A name by the number of its letter, a constant, or an operator on the nodes of these numbers. All count from 1.
+#[derive(Clone, Copy, PartialEq, Eq, Debug)]
+pub enum Node {
+    Letter(usize),
+    Truth(bool),
+    Prefix(Prefix, usize),
+    Infix(Infix, usize, usize),
 }
 
 // A name, and the byte at which it first appears.
@@ -22,6 +20,7 @@ pub struct Letter {
     pub at: usize,
 }
 
+// Claims are about nodes by their numbers, so the nodes lie in a list and are no boxes.
 #[derive(Drop)]
 pub struct Formula {
     pub nodes: Vec<Node>,
@@ -29,17 +28,6 @@ pub struct Formula {
 }
 
 impl Formula {
-    // The node of this number; `false` for a number that is none.
-    pub fn node(&self, j: usize) -> Node {
-        let none = Node {
-            sign: Sign::False,
-            letter: 0,
-            left: 0,
-            right: 0,
-        };
-        self.nodes.get(j.wrapping_sub(1)).copied().unwrap_or(none)
-    }
-
     // The number of the whole rule.
     pub fn root(&self) -> usize {
         self.nodes.len()
@@ -54,87 +42,86 @@ struct Yard {
     loose: Vec<usize>,
 }
 
-impl Yard {
-    fn settle(&mut self, sign: Sign, letter: usize) -> Result<(), AllocError> {
-        let mut right = 0;
-        let mut left = 0;
-        if matches!(level(sign), 1..=6) {
-            right = self.loose.pop().unwrap_or(0);
-        }
-        if level(sign) <= 6 {
-            left = self.loose.pop().unwrap_or(0);
-        }
-        self.nodes.push(Node {
-            sign,
-            letter,
-            left,
-            right,
-        })?;
-        let number = self.nodes.len();
-        self.loose.push(number)?;
-        Ok(())
-    }
-
-    // Settles the waiting operators that bind their operand before an operator of this sign can have it.
-    fn settle_before(&mut self, sign: Sign) -> Result<(), AllocError> {
-        for _ in 0..self.waiting.len() {
-            let Some(top) = self.waiting.pop() else {
-                break;
-            };
-            let first = level(top) < level(sign)
-                || (level(top) == level(sign) && !groups_right(sign));
-            if !first || top == Sign::Open {
-                self.waiting.push(top)?;
-                break;
-            }
-            self.settle(top, 0)?;
-        }
-        Ok(())
-    }
-
-    fn close(&mut self) -> Result<(), AllocError> {
-        self.settle_before(Sign::Close)?;
-        let _ = self.waiting.pop();
-        Ok(())
-    }
-
-    fn take(&mut self, sign: Sign, letter: usize) -> Result<(), AllocError> {
-        match sign {
-            Sign::Name | Sign::True | Sign::False => self.settle(sign, letter),
-            Sign::Close => self.close(),
-            Sign::Open | Sign::Not | Sign::Always | Sign::Eventually | Sign::Next => {
-                self.waiting.push(sign)?;
-                Ok(())
-            }
-            _ => {
-                self.settle_before(sign)?;
-                self.waiting.push(sign)?;
-                Ok(())
-            }
-        }
+// Whether a sign that waits has all its operands before the next sign.
+fn goes_first(waiting: Sign, next: Sign) -> bool {
+    match (waiting, next) {
+        (Sign::Open, _) => false,
+        (Sign::Infix(a), Sign::Infix(b)) => a < b || (a == b && !b.groups_right()),
+        _ => true,
     }
 }
 
-fn nodes_of(heap: Global, text: &[u8], scan: &Scan) -> Result<Vec<Node>, AllocError> {
+impl Yard {
+    fn settle(&mut self, node: Node) -> Result<(), AllocError> {
+        self.nodes.push(node)?;
+        self.loose.push(self.nodes.len())?;
+        Ok(())
+    }
+
+    // Settles an operator on the last loose nodes, of which a scanned text leaves it enough.
+    fn apply(&mut self, operator: Sign) -> Result<(), AllocError> {
+        match (operator, self.loose.pop()) {
+            (Sign::Prefix(p), Some(x)) => self.settle(Node::Prefix(p, x)),
+            (Sign::Infix(i), Some(y)) => match self.loose.pop() {
+                Some(x) => self.settle(Node::Infix(i, x, y)),
+                None => Ok(()),
+            },
+            _ => Ok(()),
+        }
+    }
+
+    // Settles the waiting operators that have their operands before the next sign.
+    fn settle_before(&mut self, next: Sign) -> Result<(), AllocError> {
+        // as many times as there are signs, each of which goes once
+        for _ in 0..self.waiting.len() {
+            match self.waiting.pop_if(|top| goes_first(*top, next)) {
+                Some(operator) => self.apply(operator)?,
+                None => break,
+            }
+        }
+        Ok(())
+    }
+
+    fn take(&mut self, sign: Sign) -> Result<(), AllocError> {
+        match sign {
+            Sign::Truth(value) => self.settle(Node::Truth(value))?,
+            Sign::Close => {
+                self.settle_before(sign)?;
+                let _ = self.waiting.pop();
+            }
+            Sign::Infix(_) => {
+                self.settle_before(sign)?;
+                self.waiting.push(sign)?;
+            }
+            Sign::Name | Sign::Open | Sign::Prefix(_) => self.waiting.push(sign)?,
+        }
+        Ok(())
+    }
+}
+
+fn nodes_of(heap: Global, scan: &Scan) -> Result<Vec<Node>, AllocError> {
     let mut yard = Yard {
         nodes: Vec::new(heap),
         waiting: Vec::new(heap),
         loose: Vec::new(heap),
     };
     for token in scan.tokens.iter() {
-        yard.take(token.sign, scan.letter(text, *token))?;
+        match scan.letter(token.text) {
+            Some(letter) => yard.settle(Node::Letter(letter))?,
+            None => yard.take(token.sign)?,
+        }
     }
     yard.settle_before(Sign::Close)?;
     let Yard { nodes, .. } = yard;
     Ok(nodes)
 }
 
-fn letters_of(heap: Global, text: &[u8], scan: &Scan) -> Result<Vec<Letter>, AllocError> {
+fn letters_of(heap: Global, scan: &Scan) -> Result<Vec<Letter>, AllocError> {
     let mut letters = Vec::new(heap);
     for l in scan.letters.iter() {
         letters.push(Letter {
-            name: Vec::from_slice(heap, part(text, l.from, l.to))?,
-            at: l.from,
+            name: Vec::from_slice(heap, l.text)?,
+            at: l.at,
         })?;
     }
     Ok(letters)
@@ -144,7 +131,7 @@ fn letters_of(heap: Global, text: &[u8], scan: &Scan) -> Result<Vec<Letter>, All
 pub fn read_formula(heap: Global, text: &[u8]) -> Result<Formula, Stop> {
     let scan = scanned(heap, text)?;
     Ok(Formula {
-        nodes: nodes_of(heap, text, &scan)?,
-        letters: letters_of(heap, text, &scan)?,
+        nodes: nodes_of(heap, &scan)?,
+        letters: letters_of(heap, &scan)?,
     })
 }

@@ -3,28 +3,30 @@
 #![tactic(auto)]
 
 mod book;
-mod bytes;
+mod bound;
 mod claims;
 mod file;
 mod formula;
+mod grade;
 mod meaning;
+mod numbered;
 mod reading;
 mod refusal;
 mod residue;
 mod rests;
 mod scan;
+mod set;
 mod sign;
 
-pub use book::{Asked, Book, Told, count_obligations, open_book};
-pub use claims::{Claimed, check_claims, write_claims};
+pub use book::{Asked, Book, Finality, Told, count_obligations, open_book};
+pub use bound::Bound;
+pub use claims::{Claimed, Said};
 pub use file::report;
 pub use formula::{Formula, Letter, Node, read_formula};
-pub use meaning::{Record, Values, values_of, verdict};
-pub use reading::{
-    Kind, codes, find, is_possible, mark, numbers_of, record_of, shown, some_doubt, unbound,
-    unheard, unheard_all, unnamed,
-};
-pub use refusal::{Refusal, Stop};
+pub use grade::Grade;
+pub use meaning::{Record, Values};
+pub use reading::{Kind, Reading};
+pub use refusal::{Layer, Reason, Refusal, Stop};
 pub use residue::is_term;
-pub use rests::{letters_on, possible_sets};
-pub use sign::Sign;
+pub use set::Set;
+pub use sign::{Infix, Prefix};

@@ -1,142 +1,141 @@
-// What a rule means, by its quantifiers over places. Broken is 0, unclear 1, kept 2: meet is the lower, join the higher.
-use crate::bytes::byte_at;
+// What a rule means, by its quantifiers over places.
+ghost use Rattle.std.specs.Prelude.{◌≡◌, ◌+◌, vec_len};
+
 use crate::formula::{Formula, Node};
-use crate::sign::Sign;
+use crate::grade::Grade;
+use crate::numbered::numbered;
+use crate::sign::{Infix, Prefix};
 use std::alloc::{AllocError, Global};
 
-// The letters' marks at each event, event by event.
+// The marks of the letters at each event.
 #[derive(Drop)]
 pub struct Record {
-    pub letters: usize,
-    pub events: usize,
-    pub marks: Vec<u8>,
+    pub events: Vec<Vec<Grade>>,
+}
+
+// The entry in a row and a column, both numbered from 1.
+fn entry(rows: &[Vec<Grade>], row: usize, column: usize) -> Option<Grade> {
+    numbered(numbered(rows, row)?.as_slice(), column).copied()
 }
 
 impl Record {
     // The mark of a letter at a place; off where there is no event.
-    pub fn mark(&self, place: usize, letter: usize) -> u8 {
-        if place > self.events {
-            return 0;
-        }
-        let before = place.saturating_sub(1).saturating_mul(self.letters);
-        byte_at(
-            self.marks.as_slice(),
-            before.saturating_add(letter.saturating_sub(1)),
-        )
+    pub fn mark(&self, place: usize, letter: usize) -> Grade {
+        entry(self.events.as_slice(), place, letter).unwrap_or(Grade::Broken)
+    }
+
+    // How many places there are: one for each event, and the empty rest.
+    pub fn places(&self) -> usize
+        ensures { result ≡ vec_len self.now.events + 1 }
+    {
+        self.events.len() + 1
     }
 }
 
-// The values of the first nodes at all places, node by node.
+// The values of the first nodes at all places, a row for each node.
 #[derive(Drop)]
 pub struct Values {
     events: usize,
-    grades: Vec<u8>,
-}
-
-fn turn(grade: u8) -> u8 {
-    2u8.saturating_sub(grade)
+    nodes: Vec<Vec<Grade>>,
 }
 
 impl Values {
     // The value of a node at a place, from 1 to the empty rest.
-    pub fn at(&self, node: usize, place: usize) -> u8 {
-        let places = self.events.saturating_add(1);
-        let before = node.saturating_sub(1).saturating_mul(places);
-        byte_at(
-            self.grades.as_slice(),
-            before.saturating_add(place.saturating_sub(1)),
-        )
+    pub fn at(&self, node: usize, place: usize) -> Grade {
+        entry(self.nodes.as_slice(), node, place).unwrap_or(Grade::Broken)
     }
 
     pub fn holds(&self, node: usize, place: usize) -> bool {
-        self.at(node, place) == 2
+        self.at(node, place) == Grade::Kept
     }
 
-    fn always(&self, x: usize, place: usize) -> u8 {
-        let mut met = 2;
-        for i in place..self.events.saturating_add(1) {
-            met = self.at(x, i).min(met);
-        }
-        met
+    // `always` and `eventually` are the two quantifiers; a function for both would hide which is which
+    fn always(&self, x: usize, place: usize) -> Grade {
+        (place..=self.events)
+            .map(|i| self.at(x, i))
+            .min()
+            .unwrap_or(Grade::Kept)
     }
 
-    fn eventually(&self, x: usize, place: usize) -> u8 {
-        let mut joined = 0;
-        for i in place..self.events.saturating_add(1) {
-            joined = self.at(x, i).max(joined);
-        }
-        joined
+    fn eventually(&self, x: usize, place: usize) -> Grade {
+        (place..=self.events)
+            .map(|i| self.at(x, i))
+            .max()
+            .unwrap_or(Grade::Broken)
     }
 
     // y at place i, met with x at each place before it.
-    fn until_at(&self, x: usize, y: usize, place: usize, i: usize) -> u8 {
-        let mut met = self.at(y, i);
-        for q in place..i {
-            met = self.at(x, q).min(met);
-        }
-        met
+    fn until_at(&self, x: usize, y: usize, place: usize, i: usize) -> Grade {
+        (place..i)
+            .map(|q| self.at(x, q))
+            .fold(self.at(y, i), Grade::min)
     }
 
-    fn until(&self, x: usize, y: usize, place: usize) -> u8 {
-        let mut joined = 0;
-        for i in place..self.events.saturating_add(1) {
-            joined = self.until_at(x, y, place, i).max(joined);
-        }
-        joined
+    fn until(&self, x: usize, y: usize, place: usize) -> Grade {
+        (place..=self.events)
+            .map(|i| self.until_at(x, y, place, i))
+            .max()
+            .unwrap_or(Grade::Broken)
     }
 
-    fn next(&self, x: usize, place: usize) -> u8 {
+    fn next(&self, x: usize, place: usize) -> Grade {
         if place > self.events {
-            return 0;
+            return Grade::Broken;
         }
         self.at(x, place.saturating_add(1))
     }
 
-    // An operator between two operands, but for `U`.
-    fn plain(&self, sign: Sign, x: u8, y: u8) -> u8 {
-        match sign {
-            Sign::And => x.min(y),
-            Sign::Or => x.max(y),
-            Sign::Implies => turn(x).max(y),
-            Sign::Xor => x.min(turn(y)).max(turn(x).min(y)),
-            _ => x.min(y).max(turn(x).min(turn(y))),
+    fn prefix(&self, prefix: Prefix, x: usize, place: usize) -> Grade {
+        match prefix {
+            Prefix::Not => !self.at(x, place),
+            Prefix::Next => self.next(x, place),
+            Prefix::Always => self.always(x, place),
+            Prefix::Eventually => self.eventually(x, place),
         }
     }
 
-    fn grade(&self, record: &Record, node: Node, place: usize) -> u8 {
-        let x = node.left;
-        let y = node.right;
-        match node.sign {
-            Sign::Name => record.mark(place, node.letter),
-            Sign::True => 2,
-            Sign::False => 0,
-            Sign::Not => turn(self.at(x, place)),
-            Sign::Next => self.next(x, place),
-            Sign::Always => self.always(x, place),
-            Sign::Eventually => self.eventually(x, place),
-            Sign::Until => self.until(x, y, place),
-            sign => self.plain(sign, self.at(x, place), self.at(y, place)),
+    fn infix(&self, infix: Infix, x: usize, y: usize, place: usize) -> Grade {
+        let a = self.at(x, place);
+        let b = self.at(y, place);
+        match infix {
+            Infix::Until => self.until(x, y, place),
+            Infix::And => a.min(b),
+            Infix::Or => a.max(b),
+            Infix::Implies => (!a).max(b),
+            Infix::Xor => a.min(!b).max((!a).min(b)),
+            Infix::Iff => a.min(b).max((!a).min(!b)),
+        }
+    }
+
+    fn grade(&self, record: &Record, node: Node, place: usize) -> Grade {
+        match node {
+            Node::Letter(letter) => record.mark(place, letter),
+            Node::Truth(value) => Grade::from(value),
+            Node::Prefix(prefix, x) => self.prefix(prefix, x, place),
+            Node::Infix(infix, x, y) => self.infix(infix, x, y, place),
         }
     }
 }
 
-// The values of all nodes at all places.
-pub fn values_of(heap: Global, formula: &Formula, record: &Record) -> Result<Values, AllocError> {
-    let mut values = Values {
-        events: record.events,
-        grades: Vec::new(heap),
-    };
-    for node in formula.nodes.iter() {
-        for i in 0..record.events.saturating_add(1) {
-            let grade = values.grade(record, *node, i.saturating_add(1));
-            values.grades.push(grade)?;
+impl Formula {
+    // The values of all nodes at all places of a record.
+    pub fn values(&self, heap: Global, record: &Record) -> Result<Values, AllocError> {
+        let mut values = Values {
+            events: record.events.len(),
+            nodes: Vec::new(heap),
+        };
+        for node in self.nodes.iter() {
+            let row = (1..=record.places())
+                .map(|place| values.grade(record, *node, place))
+                .collect(heap)?;
+            values.nodes.push(row)?;
         }
+        Ok(values)
     }
-    Ok(values)
-}
 
-// The verdict: the whole rule at place 1.
-pub fn verdict(heap: Global, formula: &Formula, record: &Record) -> Result<u8, AllocError> {
-    let values = values_of(heap, formula, record)?;
-    Ok(values.at(formula.root(), 1))
+    // The verdict: the whole rule at place 1.
+    pub fn verdict(&self, heap: Global, record: &Record) -> Result<Grade, AllocError> {
+        let values = self.values(heap, record)?;
+        Ok(values.at(self.root(), 1))
+    }
 }

@@ -1,57 +1,111 @@
-// Why something is refused, in plain numbers.
+// Why something is refused.
+ghost use Rattle.std.specs.Prelude.{◌≡◌};
+
 use std::alloc::{AllocError, AllocFailed};
+use std::fmt;
+
+// What is wrong, in the order of the numbers that are printed for it.
+#[derive(Clone, Copy, PartialEq, Eq, Debug)]
+pub enum Reason {
+    LongText = 1,
+    NoSign,
+    Misplaced,
+    LongName,
+    DeepNesting,
+    ManyNodes,
+    ManyLetters,
+    ManyNames,
+    NotAName,
+    RepeatedName,
+    AbsentName,
+    ManyEvents,
+    HighCode,
+    InDoubt,
+    ShortBuffer,
+    ManyObligations,
+    NinthMark,
+    NoMark,
+    Unsupported,
+    BadEnd,
+    OutOfForm,
+}
+
+// What the reason is about, in the order of the numbers that are printed for it.
+#[derive(Clone, Copy, PartialEq, Eq, Debug)]
+pub enum Layer {
+    Signs = 1,
+    Grammar,
+    Names,
+    Traces,
+    Files,
+}
 
 #[derive(Clone, Copy, PartialEq, Eq, Debug)]
 pub struct Refusal {
-    pub number: u8,
-    pub layer: u8,
+    pub reason: Reason,
     pub place: usize,
+}
+
+impl Reason {
+    // The refusal for this reason at a place.
+    pub fn at(self, place: usize) -> Refusal
+        ensures reason { result.reason ≡ self }
+        ensures place { result.place ≡ place }
+    {
+        Refusal {
+            reason: self,
+            place,
+        }
+    }
+}
+
+impl Refusal {
+    pub fn layer(self) -> Layer {
+        match self.reason {
+            Reason::NoSign | Reason::LongName => Layer::Signs,
+            Reason::LongText
+            | Reason::Misplaced
+            | Reason::DeepNesting
+            | Reason::ManyNodes
+            | Reason::ManyLetters => Layer::Grammar,
+            Reason::ManyNames | Reason::NotAName | Reason::RepeatedName | Reason::AbsentName =>
+                Layer::Names,
+            Reason::OutOfForm => Layer::Files,
+            _ => Layer::Traces,
+        }
+    }
+}
+
+impl fmt::Display for Refusal {
+    fn fmt<W: fmt::Write>(&self, f: &mut fmt::Formatter<W>) -> fmt::Result {
+        let number = self.reason as u8;
+        let layer = self.layer() as u8;
+        let place = self.place;
+        write!(f, "{number}\t{layer}\t{place}")
+    }
 }
 
 // Why there is no answer: a refusal, or want of memory.
 #[derive(Drop)]
 pub enum Stop {
     Refusal(Refusal),
-    Memory,
-}
-
-// The layer that each number belongs to.
-fn layer_of(number: u8) -> u8 {
-    match number {
-        2 | 4 => 1,
-        1 | 3 | 5 | 6 | 7 => 2,
-        8..=11 => 3,
-        21 => 5,
-        _ => 4,
-    }
-}
-
-pub fn refused(number: u8, place: usize) -> Refusal {
-    Refusal {
-        number,
-        layer: layer_of(number),
-        place,
-    }
-}
-
-pub fn stopped(number: u8, place: usize) -> Stop {
-    Stop::Refusal(refused(number, place))
+    Memory(AllocError),
 }
 
 impl From<Refusal> for Stop {
-    fn from(r: Refusal) -> Stop {
-        Stop::Refusal(r)
+    fn from(why: Refusal) -> Stop {
+        Stop::Refusal(why)
     }
 }
 
 impl From<AllocError> for Stop {
-    fn from(_: AllocError) -> Stop {
-        Stop::Memory
+    fn from(why: AllocError) -> Stop {
+        Stop::Memory(why)
     }
 }
 
 impl<T: Drop> From<AllocFailed<T>> for Stop {
-    fn from(_: AllocFailed<T>) -> Stop {
-        Stop::Memory
+    fn from(why: AllocFailed<T>) -> Stop {
+        Stop::Memory(why.into())
     }
 }

@@ -1,115 +1,110 @@
 // What a rule leaves to be met, as a truth table over its obligations.
 use crate::formula::{Formula, Node};
-use crate::rests::has;
-use crate::sign::Sign;
+use crate::numbered::numbered;
+use crate::set::Set;
+use crate::sign::{Infix, Prefix};
 use std::alloc::{AllocError, Global};
 
-// Whether a node is an obligation: the root, an operand of `o`, or one of the operators that look further ahead than `o`.
-fn is_obligation(formula: &Formula, j: usize) -> bool {
-    if j == formula.root() {
-        return true;
-    }
-    for node in formula.nodes.iter() {
-        if matches!(node.sign, Sign::Next) && node.left == j {
-            return true;
-        }
-    }
+// Whether a node looks further ahead than `o`.
+fn looks_far(node: Node) -> bool {
     matches!(
-        formula.node(j).sign,
-        Sign::Always | Sign::Eventually | Sign::Until
+        node,
+        Node::Prefix(Prefix::Always | Prefix::Eventually, _) | Node::Infix(Infix::Until, _, _)
     )
 }
 
-// The numbers of the nodes that are obligations.
-pub fn obligations(heap: Global, formula: &Formula) -> Result<Vec<usize>, AllocError> {
-    let mut out = Vec::new(heap);
-    for i in 0..formula.root() {
-        let j = i.saturating_add(1);
-        if is_obligation(formula, j) {
-            out.push(j)?;
-        }
+impl Formula {
+    // Whether a node, which has this number, is an obligation: the root, an operand of `o`, or one that looks far.
+    fn is_obligation(&self, number: usize, node: Node) -> bool {
+        let next = Node::Prefix(Prefix::Next, number);
+        number == self.root() || looks_far(node) || self.nodes.contains(&next)
     }
-    Ok(out)
+
+    // The numbers of the nodes that are obligations.
+    pub(crate) fn obligations(&self, heap: Global) -> Result<Vec<usize>, AllocError> {
+        let mut out = Vec::new(heap);
+        for (i, node) in self.nodes.iter().enumerate() {
+            let number = i.saturating_add(1);
+            if self.is_obligation(number, *node) {
+                out.push(number)?;
+            }
+        }
+        Ok(out)
+    }
 }
 
-// Truth values of the first nodes at an event, and of the obligations on the rest behind it.
+// Truth values of the first nodes at an event with these letters, and of the obligations on the rest behind it.
 #[derive(Drop)]
 struct Step<'a> {
     here: Vec<bool>,
+    letters: Set,
     obligations: &'a [usize],
-    later: u8,
+    later: Set,
 }
 
 impl Step<'_> {
     fn now(&self, j: usize) -> bool {
-        self.here.get(j.wrapping_sub(1)).copied().unwrap_or(false)
+        numbered(self.here.as_slice(), j).copied().unwrap_or(false)
     }
 
     fn later(&self, j: usize) -> bool {
-        for (i, o) in self.obligations.iter().enumerate() {
-            if *o == j {
-                return has(u64::from(self.later), i.saturating_add(1));
-            }
-        }
-        false
+        self.obligations
+            .iter()
+            .position(|o| *o == j)
+            .is_some_and(|i| self.later.has(i.saturating_add(1)))
     }
 
-    fn truth(&self, node: Node, j: usize, letters: u8) -> bool {
-        let x = self.now(node.left);
-        let y = self.now(node.right);
-        match node.sign {
-            Sign::Name => has(u64::from(letters), node.letter),
-            Sign::True => true,
-            Sign::Not => !x,
-            Sign::And => x & y,
-            Sign::Or => x | y,
-            Sign::Implies => !x | y,
-            Sign::Xor => x != y,
-            Sign::Iff => x == y,
-            Sign::Next => self.later(node.left),
-            Sign::Always => x & self.later(j),
-            Sign::Eventually => x | self.later(j),
-            Sign::Until => y | (x & self.later(j)),
-            _ => false,
+    fn prefix(&self, j: usize, prefix: Prefix, operand: usize) -> bool {
+        let x = self.now(operand);
+        match prefix {
+            Prefix::Not => !x,
+            Prefix::Next => self.later(operand),
+            Prefix::Always => x && self.later(j),
+            Prefix::Eventually => x || self.later(j),
+        }
+    }
+
+    fn infix(&self, j: usize, infix: Infix, x: bool, y: bool) -> bool {
+        match infix {
+            Infix::Until => y || (x && self.later(j)),
+            Infix::And => x && y,
+            Infix::Or => x || y,
+            Infix::Implies => !x || y,
+            Infix::Xor => x != y,
+            Infix::Iff => x == y,
+        }
+    }
+
+    // The truth of a node, which has this number.
+    fn truth(&self, j: usize, node: Node) -> bool {
+        match node {
+            Node::Letter(letter) => self.letters.has(letter),
+            Node::Truth(value) => value,
+            Node::Prefix(prefix, x) => self.prefix(j, prefix, x),
+            Node::Infix(infix, x, y) => self.infix(j, infix, self.now(x), self.now(y)),
         }
     }
 }
 
 // The set of the obligations that hold at an event with these letters before a rest on which those of the set `later` hold.
-pub fn before(
+fn before(
     heap: Global,
     formula: &Formula,
     obligations: &[usize],
-    letters: u8,
-    later: u8,
-) -> Result<u8, AllocError> {
+    letters: Set,
+    later: Set,
+) -> Result<Set, AllocError> {
     let mut step = Step {
         here: Vec::new(heap),
+        letters,
         obligations,
         later,
     };
     for (i, node) in formula.nodes.iter().enumerate() {
-        let truth = step.truth(*node, i.saturating_add(1), letters);
+        let truth = step.truth(i.saturating_add(1), *node);
         step.here.push(truth)?;
     }
-    let mut set: u8 = 0;
-    let mut worth: u8 = 1;
-    for o in obligations {
-        if step.now(*o) {
-            set = set.wrapping_add(worth);
-        }
-        worth = worth.wrapping_mul(2);
-    }
-    Ok(set)
-}
-
-// How many sets of so many obligations there are, of at most eight.
-fn sets_of(count: usize) -> u32 {
-    let mut sets: u32 = 1;
-    for _ in 0..count.min(8) {
-        sets = sets.wrapping_mul(2);
-    }
-    sets
+    Ok(Set::of(obligations.iter().map(|o| step.now(*o))))
 }
 
 // What is left of a rule after events with these letters: its value at each set of obligations, from 0 on. The rule itself is
@@ -118,28 +113,24 @@ pub fn residue(
     heap: Global,
     formula: &Formula,
     obligations: &[usize],
-    events: &[u8],
+    events: &[Set],
 ) -> Result<Vec<bool>, AllocError> {
+    let sets = 1usize << obligations.len().min(8);
     let mut table = Vec::new(heap);
-    for v in 0..sets_of(obligations.len()) {
-        let mut set = (v & 255) as u8;
+    for bits in (0..=u8::MAX).take(sets) {
+        let mut set = Set(u64::from(bits));
         for letters in events.iter().rev() {
             set = before(heap, formula, obligations, *letters, set)?;
         }
-        table.push(has(u64::from(set), obligations.len()))?;
+        table.push(set.has(obligations.len()))?;
     }
     Ok(table)
 }
 
 // Whether the product of the obligations in a set is a term: it is if an odd number of its parts have the value 1.
 pub fn is_term(table: &[bool], product: u8) -> bool {
-    if product as usize >= table.len() {
-        return false;
-    }
-    let mut odd = false;
-    for (v, value) in table.iter().enumerate() {
-        let inside = (v & 255) as u8 & !product == 0;
-        odd = odd != (inside && *value);
-    }
-    odd
+    let parts = (0..=u8::MAX)
+        .zip(table)
+        .filter(|(set, value)| **value && *set & !product == 0);
+    usize::from(product) < table.len() && parts.count() % 2 == 1
 }

@@ -1,34 +1,24 @@
 // Reading a rule text from left to right, to its first fault.
-use crate::bytes::{byte_at, part, same_bytes};
-use crate::refusal::{Refusal, Stop, refused, stopped};
-use crate::sign::{Sign, Token, is_blank, level, token_at};
+use crate::refusal::{Reason, Refusal, Stop};
+use crate::sign::{Sign, Token, is_blank, token_at};
 use std::alloc::Global;
 
 // The signs so far, the first appearance of each name, and what may come next.
 #[derive(Drop)]
-pub struct Scan {
-    pub tokens: Vec<Token>,
-    pub letters: Vec<Token>,
+pub struct Scan<'a> {
+    pub tokens: Vec<Token<'a>>,
+    pub letters: Vec<Token<'a>>,
     open: usize,
     nodes: usize,
     wants_operand: bool,
 }
 
-// Whether an operand may begin with the sign.
-fn begins_operand(sign: Sign) -> bool {
-    matches!(sign, Sign::Name | Sign::True | Sign::False | Sign::Open) || level(sign) == 0
-}
-
-fn joins(sign: Sign) -> bool {
-    matches!(level(sign), 1..=6)
-}
-
-impl Scan {
+impl<'a> Scan<'a> {
     fn fits(&self, sign: Sign) -> bool {
-        if self.wants_operand {
-            begins_operand(sign)
-        } else {
-            joins(sign) || (sign == Sign::Close && self.open > 0)
+        match sign {
+            Sign::Name | Sign::Truth(_) | Sign::Open | Sign::Prefix(_) => self.wants_operand,
+            Sign::Infix(_) => !self.wants_operand,
+            Sign::Close => !self.wants_operand && self.open > 0,
         }
     }
 
@@ -37,14 +27,14 @@ impl Scan {
         match token.sign {
             Sign::Open => {
                 if self.open >= 16 {
-                    return Err(refused(5, token.from));
+                    return Err(Reason::DeepNesting.at(token.at));
                 }
                 self.open = self.open.saturating_add(1);
             }
             Sign::Close => self.open = self.open.saturating_sub(1),
             _ => {
                 if self.nodes >= 64 {
-                    return Err(refused(6, token.from));
+                    return Err(Reason::ManyNodes.at(token.at));
                 }
                 self.nodes = self.nodes.saturating_add(1);
             }
@@ -52,45 +42,38 @@ impl Scan {
         Ok(())
     }
 
-    // The number of a name among the letters so far, from 1; 0 for a new one.
-    pub fn letter(&self, text: &[u8], token: Token) -> usize {
-        for (i, l) in self.letters.iter().enumerate() {
-            if same_bytes(part(text, l.from, l.to), part(text, token.from, token.to)) {
-                return i.saturating_add(1);
-            }
-        }
-        0
+    // The number of a name among the letters so far, from 1.
+    pub fn letter(&self, name: &[u8]) -> Option<usize> {
+        let i = self.letters.iter().position(|l| l.text == name)?;
+        Some(i.saturating_add(1))
     }
 
-    fn note_letter(&mut self, text: &[u8], token: Token) -> Result<(), Stop> {
-        if token.sign != Sign::Name || self.letter(text, token) > 0 {
+    fn note_letter(&mut self, token: Token<'a>) -> Result<(), Stop> {
+        if token.sign != Sign::Name || self.letter(token.text).is_some() {
             return Ok(());
         }
         if self.letters.len() >= 8 {
-            return Err(stopped(7, token.from));
+            return Err(Reason::ManyLetters.at(token.at).into());
         }
         self.letters.push(token)?;
         Ok(())
     }
 
-    fn take(&mut self, text: &[u8], token: Token) -> Result<(), Stop> {
+    fn take(&mut self, token: Token<'a>) -> Result<(), Stop> {
         if !self.fits(token.sign) {
-            return Err(stopped(3, token.from));
+            return Err(Reason::Misplaced.at(token.at).into());
         }
         self.count(token)?;
-        self.note_letter(text, token)?;
-        self.wants_operand = match token.sign {
-            Sign::Name | Sign::True | Sign::False | Sign::Close => false,
-            _ => true,
-        };
+        self.note_letter(token)?;
+        self.wants_operand = !matches!(token.sign, Sign::Name | Sign::Truth(_) | Sign::Close);
         self.tokens.push(token)?;
         Ok(())
     }
 }
 
-pub fn scanned(heap: Global, text: &[u8]) -> Result<Scan, Stop> {
+pub fn scanned(heap: Global, text: &[u8]) -> Result<Scan<'_>, Stop> {
     if text.len() > 512 {
-        return Err(stopped(1, 512));
+        return Err(Reason::LongText.at(512).into());
     }
     let mut scan = Scan {
         tokens: Vec::new(heap),
@@ -100,15 +83,15 @@ pub fn scanned(heap: Global, text: &[u8]) -> Result<Scan, Stop> {
         wants_operand: true,
     };
     let mut next: usize = 0;
-    for i in 0..text.len() {
-        if i >= next && !is_blank(byte_at(text, i)) {
+    for (i, b) in text.iter().enumerate() {
+        if i >= next && !is_blank(*b) {
             let token = token_at(text, i)?;
-            scan.take(text, token)?;
-            next = token.to;
+            scan.take(token)?;
+            next = i.saturating_add(token.text.len());
         }
     }
     if scan.wants_operand || scan.open > 0 {
-        return Err(stopped(3, text.len()));
+        return Err(Reason::Misplaced.at(text.len()).into());
     }
     Ok(scan)
 }

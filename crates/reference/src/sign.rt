@@ -1,18 +1,18 @@
 // The signs of a rule text.
-use crate::bytes::{byte_at, part};
-use crate::refusal::{Refusal, refused};
+use crate::refusal::{Reason, Refusal};
 
-#[derive(Clone, Copy, PartialEq, Eq)]
-pub enum Sign {
-    Name,
-    True,
-    False,
-    Open,
-    Close,
+// An operator before its operand.
+#[derive(Clone, Copy, PartialEq, Eq, Debug)]
+pub enum Prefix {
     Not,
     Always,
     Eventually,
     Next,
+}
+
+// An operator between its operands. The earlier ones here bind tighter.
+#[derive(Clone, Copy, PartialEq, Eq, PartialOrd, Ord, Debug)]
+pub enum Infix {
     Until,
     And,
     Xor,
@@ -21,127 +21,91 @@ pub enum Sign {
     Iff,
 }
 
-// A sign, and the bytes of the text that spell it.
-#[derive(Clone, Copy)]
-pub struct Token {
-    pub sign: Sign,
-    pub from: usize,
-    pub to: usize,
-}
-
-// The signs that are no words, and how they are spelled. No spelling begins another but for `<->`, which is not begun by `<>`.
-const OTHERS: [Sign; 10] = [
-    Sign::Not,
-    Sign::Open,
-    Sign::Close,
-    Sign::Always,
-    Sign::Eventually,
-    Sign::Iff,
-    Sign::Implies,
-    Sign::Xor,
-    Sign::And,
-    Sign::Or,
-];
-
-fn spelling(sign: Sign) -> &'static [u8] {
-    match sign {
-        Sign::Not => b"!",
-        Sign::Open => b"(",
-        Sign::Close => b")",
-        Sign::Always => b"[]",
-        Sign::Eventually => b"<>",
-        Sign::Iff => b"<->",
-        Sign::Implies => b"->",
-        Sign::Xor => b"++",
-        Sign::And => b"/\\",
-        Sign::Or => b"\\/",
-        _ => b"?",
+impl Infix {
+    pub fn groups_right(self) -> bool {
+        matches!(self, Infix::Until | Infix::Implies)
     }
 }
 
-pub fn is_alphabetic(b: u8) -> bool {
-    matches!(b, b'A'..=b'Z' | b'a'..=b'z')
+#[derive(Clone, Copy, PartialEq, Eq, Debug)]
+pub enum Sign {
+    Name,
+    Truth(bool),
+    Open,
+    Close,
+    Prefix(Prefix),
+    Infix(Infix),
 }
 
+// A sign, the byte of the text where it begins, and its spelling.
+#[derive(Clone, Copy)]
+pub struct Token<'a> {
+    pub sign: Sign,
+    pub at: usize,
+    pub text: &'a [u8],
+}
+
+// The signs that are no words. No spelling begins another but for `<->`, which is not begun by `<>`.
+const SPELLED: [(Sign, &[u8]); 10] = [
+    (Sign::Prefix(Prefix::Not), b"!"),
+    (Sign::Open, b"("),
+    (Sign::Close, b")"),
+    (Sign::Prefix(Prefix::Always), b"[]"),
+    (Sign::Prefix(Prefix::Eventually), b"<>"),
+    (Sign::Infix(Infix::Iff), b"<->"),
+    (Sign::Infix(Infix::Implies), b"->"),
+    (Sign::Infix(Infix::Xor), b"++"),
+    (Sign::Infix(Infix::And), b"/\\"),
+    (Sign::Infix(Infix::Or), b"\\/"),
+];
+
 pub fn is_inner(b: u8) -> bool {
-    is_alphabetic(b) || matches!(b, b'0'..=b'9' | b'_')
+    b.is_ascii_alphanumeric() || b == b'_'
 }
 
 pub fn is_blank(b: u8) -> bool {
-    b == b' ' || b == b'\t'
+    matches!(b, b' ' | b'\t')
+}
+
+pub fn begins_word(text: &[u8]) -> bool {
+    text.first().is_some_and(|b| b.is_ascii_alphabetic())
 }
 
 // Which word this is.
 pub fn word_sign(word: &[u8]) -> Sign {
     match word {
-        b"true" => Sign::True,
-        b"false" => Sign::False,
-        b"o" => Sign::Next,
-        b"U" => Sign::Until,
+        b"true" => Sign::Truth(true),
+        b"false" => Sign::Truth(false),
+        b"o" => Sign::Prefix(Prefix::Next),
+        b"U" => Sign::Infix(Infix::Until),
         _ => Sign::Name,
     }
 }
 
-// Where the word that begins at `from` ends.
-fn word_end(text: &[u8], from: usize) -> usize {
-    for i in from..text.len() {
-        if !is_inner(text[i]) {
-            return i;
-        }
+// The word that begins a part of the text, which begins at a byte of it.
+fn word_at(rest: &[u8], at: usize) -> Result<Token<'_>, Refusal> {
+    let text = rest.split(|b| !is_inner(*b)).next().unwrap_or(rest);
+    let sign = word_sign(text);
+    if sign == Sign::Name && text.len() > 12 {
+        return Err(Reason::LongName.at(at));
     }
-    text.len()
-}
-
-fn word_at(text: &[u8], from: usize) -> Result<Token, Refusal> {
-    let to = word_end(text, from);
-    let sign = word_sign(part(text, from, to));
-    if sign == Sign::Name && to.saturating_sub(from) > 12 {
-        return Err(refused(4, from));
-    }
-    Ok(Token { sign, from, to })
-}
-
-fn begins(text: &[u8], at: usize, spelling: &[u8]) -> bool {
-    for i in 0..spelling.len() {
-        if byte_at(text, at.saturating_add(i)) != spelling[i] {
-            return false;
-        }
-    }
-    true
+    Ok(Token { sign, at, text })
 }
 
 // The sign that begins at a byte that is not blank.
-pub fn token_at(text: &[u8], at: usize) -> Result<Token, Refusal> {
-    if is_alphabetic(byte_at(text, at)) {
-        return word_at(text, at);
+pub fn token_at(text: &[u8], at: usize) -> Result<Token<'_>, Refusal> {
+    let rest = text.get(at..).unwrap_or(&[]);
+    if begins_word(rest) {
+        return word_at(rest, at);
     }
-    for sign in OTHERS {
-        let bytes = spelling(sign);
-        if begins(text, at, bytes) {
+    for (sign, spelling) in SPELLED {
+        if rest.starts_with(spelling) {
             return Ok(Token {
                 sign,
-                from: at,
-                to: at.saturating_add(bytes.len()),
+                at,
+                text: spelling,
             });
         }
     }
-    Err(refused(2, at))
-}
-
-// How loosely a sign binds its operands: 0 before one operand, 1 to 6 between two, 7 for all other signs.
-pub fn level(sign: Sign) -> u8 {
-    match sign {
-        Sign::Not | Sign::Always | Sign::Eventually | Sign::Next => 0,
-        Sign::Until => 1,
-        Sign::And => 2,
-        Sign::Xor => 3,
-        Sign::Or => 4,
-        Sign::Implies => 5,
-        Sign::Iff => 6,
-        _ => 7,
-    }
-}
-
-pub fn groups_right(sign: Sign) -> bool {
-    sign == Sign::Until || sign == Sign::Implies
+    Err(Reason::NoSign.at(at))
 }

@@ -1,23 +1,18 @@
 // Comparing a monitor's answers to lists of calls.
 use crate::readings_shown::some_code;
-use crate::same::{answered, same_refusal};
+use crate::same::{answered, same};
 use crate::source::Source;
 use crate::tally::Tally;
-use monitor::{Call, Finality, Standing};
+use crate::verdicts_said::Graded;
+use monitor::{Call, Standing};
 use readings::{BoundRule, Reading};
-use reference::{Asked, Book, Kind, Told, is_term};
+use reference::{Asked, Book, Finality, Kind, Told, is_term};
 use rules::Fault;
 use std::alloc::{AllocError, Global};
-use verdicts::YesNo;
 
 // A list of calls: events most often, and marks more often than they are taken back.
-pub fn some_calls(
-    heap: Global,
-    source: &mut Source,
-    kind: Kind,
-    count: u32,
-) -> Result<Vec<Call>, AllocError> {
-    let mut calls = Vec::new(heap);
+pub fn some_calls(source: &mut Source, kind: Kind, count: u32) -> Result<Vec<Call>, AllocError> {
+    let mut calls = Vec::new(source.heap);
     let marking = source.one_in(5);
     for _ in 0..count {
         let call = match source.below(if marking { 20 } else { 12 }) {
@@ -34,6 +29,7 @@ pub fn some_calls(
     Ok(calls)
 }
 
+// Both types are other crates', so this is a function and no `From`.
 fn asked(call: Call) -> Asked {
     match call {
         Call::Event(code) => Asked::Event(code),
@@ -47,18 +43,20 @@ fn asked(call: Call) -> Asked {
 
 // Whether a residual is the polynomial with this truth table.
 fn same_residual(residual: polynomials::Residual, table: &[bool]) -> bool {
-    for s in 0..256u32 {
-        let product = (s & 255) as u8;
-        if residual.bit(product) != is_term(table, product) {
-            return false;
-        }
+    (0..=u8::MAX).all(|product| residual.bit(product) == is_term(table, product))
+}
+
+// The like.
+fn finality(finality: monitor::Finality) -> Finality {
+    match finality {
+        monitor::Finality::SoFar => Finality::SoFar,
+        monitor::Finality::ForGood => Finality::ForGood,
     }
-    true
 }
 
 pub fn same_standing(standing: Standing, told: &Told) -> bool {
-    matches!(standing.verdict, YesNo::Kept) == told.kept
-        && matches!(standing.finality, Finality::ForGood) == told.for_good
+    standing.verdict.grade() == told.verdict
+        && finality(standing.finality) == told.finality
         && standing.count == told.count
         && same_residual(standing.residual, told.table.as_slice())
 }
@@ -70,19 +68,15 @@ fn same_answers(
     answers: &[Result<Standing, Fault>],
     tally: &mut Tally,
 ) -> Result<bool, AllocError> {
-    for (call, answer) in calls.iter().zip(answers.iter()) {
-        let same = match (*answer, answered(book.ask(asked(*call)))?) {
-            (Ok(standing), Ok(told)) => {
-                tally.told(told.for_good);
-                same_standing(standing, &told)
-            }
-            (Err(fault), Err(refusal)) => {
-                tally.refused(Some(refusal));
-                same_refusal(fault, refusal)
-            }
-            _ => false,
-        };
-        if !same {
+    for (call, answer) in calls.iter().zip(answers) {
+        let told = answered(book.ask(asked(*call)))?;
+        if let (Ok(_), Ok(told)) = (answer, &told) {
+            tally.told(told.finality);
+        }
+        if answer.is_err() {
+            tally.met(&told)?;
+        }
+        if !same(*answer, &told, same_standing) {
             return Ok(false);
         }
     }
@@ -102,6 +96,9 @@ pub fn compare_calls<R: Reading + Drop>(
     let closed = agreement::replay(bound, calls, answers.as_mut_slice());
     let same = same_answers(book, calls, answers.as_slice(), tally)?;
     let told = book.standing()?;
-    tally.calls.note(same && same_standing(closed, &told));
+    tally
+        .counts
+        .calls
+        .note(same && same_standing(closed, &told));
     Ok(())
 }

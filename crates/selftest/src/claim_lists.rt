@@ -1,40 +1,33 @@
 // Comparing the claims that are written, and those that are accepted.
-use crate::same::{both, same_refusal};
+use crate::same::same;
 use crate::source::Source;
+use crate::tally::Tally;
+use crate::trial::Trial;
+use crate::verdicts_said::Graded;
 use claims::{Claim, Sign};
-use readings::{BoundRule, Reading};
-use reference::{Claimed, Formula, Record, Refusal, check_claims, write_claims};
+use readings::Reading;
+use reference::{Claimed, Grade, Said};
 use std::alloc::{AllocError, Global};
-use verdicts::YesNo;
+
+// The number of a claim; 0 is none.
+fn number(n: u32) -> Option<usize> {
+    (n != 0).then_some(n as usize)
+}
 
 fn plain(claim: Claim) -> Claimed {
     Claimed {
-        place: claim.place as usize,
-        node: claim.node as usize,
-        holds: matches!(claim.sign, Sign::Holds),
-        first: claim.first as usize,
-        second: claim.second as usize,
+        said: Said {
+            place: claim.place as usize,
+            node: claim.node as usize,
+            holds: matches!(claim.sign, Sign::Holds),
+        },
+        first: number(claim.first),
+        second: number(claim.second),
     }
 }
 
 fn plain_list(heap: Global, claims: &[Claim]) -> Result<Vec<Claimed>, AllocError> {
-    let mut out = Vec::new(heap);
-    for c in claims {
-        out.push(plain(*c))?;
-    }
-    Ok(out)
-}
-
-fn same_list(a: &[Claimed], b: &[Claimed]) -> bool {
-    if a.len() != b.len() {
-        return false;
-    }
-    for (x, y) in a.iter().zip(b.iter()) {
-        if *x != *y {
-            return false;
-        }
-    }
-    true
+    claims.iter().map(|c| plain(*c)).collect(heap)
 }
 
 const BLANK: Claim = Claim {
@@ -44,32 +37,6 @@ const BLANK: Claim = Claim {
     first: 7,
     second: 7,
 };
-
-// Whether the library writes what the reference does, into just the room needed and one more.
-pub fn compare_written<R: Reading>(
-    heap: Global,
-    bound: &BoundRule<R>,
-    trace: &[u32],
-    formula: &Formula,
-    record: &Record,
-    refusal: Option<Refusal>,
-) -> Result<bool, AllocError> {
-    let written = write_claims(heap, formula, record)?;
-    let total = written.len();
-    let mut room = vec![in heap; BLANK; total.saturating_add(1)]?;
-    let answer = claims::write(bound, trace, room.as_mut_slice());
-    let mut listed = plain_list(heap, room.as_slice())?;
-    let past = listed.pop();
-    let kept = past == Some(plain(BLANK));
-    Ok(match answer {
-        Ok(count) => {
-            kept && refusal.is_none()
-                && count == total
-                && same_list(listed.as_slice(), written.as_slice())
-        }
-        Err(fault) => kept && both(Some(fault), refusal),
-    })
-}
 
 // A number near this one.
 fn nudged(source: &mut Source, n: u32) -> u32 {
@@ -100,12 +67,8 @@ fn changed(source: &mut Source, claim: Claim) -> Claim {
 }
 
 // A list made from a written one: some claims changed, and perhaps some at the end left out.
-fn some_claims(
-    heap: Global,
-    source: &mut Source,
-    written: &[Claim],
-) -> Result<Vec<Claim>, AllocError> {
-    let mut out = Vec::new(heap);
+fn some_claims(source: &mut Source, written: &[Claim]) -> Result<Vec<Claim>, AllocError> {
+    let mut out = Vec::new(source.heap);
     let often = written.len().saturating_mul(2).saturating_add(1);
     for c in written {
         let odd = source.index(often) < 2;
@@ -118,54 +81,42 @@ fn some_claims(
     Ok(out)
 }
 
-// Why a list is refused, or that the library does not say the same.
-fn same_check<R: Reading>(
-    bound: &BoundRule<R>,
-    trace: &[u32],
-    list: &[Claim],
-    answer: Result<bool, Refusal>,
-) -> Result<Option<Refusal>, Differ> {
-    match (claims::check(bound, trace, list), answer) {
-        (Ok(v), Ok(kept)) => {
-            if matches!(v, YesNo::Kept) == kept {
-                return Ok(None);
-            }
-        }
-        (Err(fault), Err(why)) => {
-            if same_refusal(fault, why) {
-                return Ok(Some(why));
-            }
-        }
-        _ => {}
+impl<R: Reading> Trial<'_, R> {
+    // Whether the library writes what the reference does, into just the room needed and one more.
+    pub fn same_written(&self, heap: Global) -> Result<bool, AllocError> {
+        let written = self.plain.formula.write_claims(heap, &self.record)?;
+        let mut room = vec![in heap; BLANK; written.len().saturating_add(1)]?;
+        let count = claims::write(&self.ours, self.trace, room.as_mut_slice());
+        let mut listed = plain_list(heap, room.as_slice())?;
+        let kept = listed.pop() == Some(plain(BLANK));
+        let refusal = self.plain.check_events(self.trace, false);
+        let alike = same(count, &refusal, |count, _| {
+            count == written.len() && listed.as_slice() == written.as_slice()
+        });
+        Ok(kept && alike)
     }
-    Err(Differ)
-}
 
-// That the library answers otherwise.
-#[derive(Clone, Copy)]
-pub struct Differ;
-
-// Checks a list made from the library's own: why it is refused, if it is.
-pub fn compare_checks<R: Reading>(
-    heap: Global,
-    source: &mut Source,
-    bound: &BoundRule<R>,
-    trace: &[u32],
-    formula: &Formula,
-    record: &Record,
-    refusal: Option<Refusal>,
-) -> Result<Result<Option<Refusal>, Differ>, AllocError> {
-    let total = record
-        .events
-        .saturating_add(1)
-        .saturating_mul(formula.root());
-    let mut room = vec![in heap; BLANK; total]?;
-    let _ = claims::write(bound, trace, room.as_mut_slice());
-    let list = some_claims(heap, source, room.as_slice())?;
-    let listed = plain_list(heap, list.as_slice())?;
-    let answer = match refusal {
-        Some(why) => Err(why),
-        None => check_claims(formula, record, listed.as_slice()),
-    };
-    Ok(same_check(bound, trace, list.as_slice(), answer))
+    // Checks a list made from the library's own.
+    pub fn compare_checks(&self, source: &mut Source, tally: &mut Tally) -> Result<(), AllocError> {
+        let total = self
+            .record
+            .places()
+            .saturating_mul(self.plain.formula.root());
+        let mut room = vec![in source.heap; BLANK; total]?;
+        let _ = claims::write(&self.ours, self.trace, room.as_mut_slice());
+        let list = some_claims(source, room.as_slice())?;
+        let listed = plain_list(source.heap, list.as_slice())?;
+        let meant = self.plain.check_events(self.trace, false).and(
+            self.plain
+                .formula
+                .check_claims(&self.record, listed.as_slice()),
+        );
+        let said = claims::check(&self.ours, self.trace, list.as_slice());
+        let alike = same(said, &meant, |v, kept| v.grade() == Grade::from(*kept));
+        tally.counts.checks.note(alike);
+        if alike {
+            tally.met(&meant)?;
+        }
+        Ok(())
+    }
 }

@@ -1,7 +1,7 @@
 // Examples with known answers.
 use monitor::{Finality, Monitor};
-use readings::{BoundRule, Words};
-use rules::Rule;
+use readings::{BoundRule, Named, Words};
+use rules::{Fault, Rule};
 use verdicts::YesNo;
 
 // The rule bound to a reading of the words a, b and c.
@@ -23,22 +23,17 @@ pub fn fresh(text: &[u8]) -> &'static str {
     }
 }
 
-// How many obligations a rule has, or the number and the place of the refusal.
-pub fn obligations(text: &[u8]) -> (usize, u8) {
-    match Monitor::check(&bound(text)) {
-        Ok(count) => (count, 0),
-        Err(fault) => (fault.place(), fault.number()),
-    }
+// How many obligations a rule has, or why that is refused.
+pub fn obligations(text: &[u8]) -> Result<usize, Fault> {
+    Monitor::check(&bound(text))
 }
 
-// The number and the place of the refusal of event 4,096, and how many events stand then.
-pub fn last_answer() -> (u8, usize, usize) {
+// Why event 4,096 is refused, if it is, and how many events stand then.
+pub fn last_answer() -> (Option<Fault>, usize) {
     let mut monitor = Monitor::open(bound(b"[] a"));
-    let mut refused = (0, 0);
+    let mut refused = None;
     for _ in 0..4096 {
-        if let Err(fault) = monitor.event(1) {
-            refused = (fault.number(), fault.place());
-        }
+        refused = monitor.event(1).err();
     }
-    (refused.0, refused.1, monitor.close().count)
+    (refused, monitor.close().count)
 }

@@ -13,6 +13,7 @@ mod session;
 mod source;
 mod tally;
 mod texts;
+mod trial;
 mod verdicts_said;
 
 use examples::{fresh, last_answer, obligations};
@@ -20,24 +21,24 @@ use readings::{Panel, Words};
 use reports::long_file;
 use session::Session;
 use std::{env, io};
-use tally::{Count, Tally};
+use tally::{Counts, Tally};
 
 // The argument at a place, or what stands for it.
 fn argument(rt: &HostRuntime, place: usize, otherwise: u64) -> anyhow::Result<u64> {
-    for (i, text) in env::args(rt)?.enumerate() {
-        if i == place {
-            return Ok(text.as_str().parse::<u64>()?);
-        }
+    match env::args(rt)?.nth(place) {
+        Some(text) => Ok(text.as_str().parse::<u64>()?),
+        None => Ok(otherwise),
     }
-    Ok(otherwise)
 }
 
 fn print_obligations(rt: &HostRuntime, text: &str) -> io::Result<()> {
-    let (count, number) = obligations(text.as_bytes());
-    if number == 0 {
-        println!(rt; "{text}: {count} obligations")
-    } else {
-        println!(rt; "{text}: refused with {number} at {count}")
+    match obligations(text.as_bytes()) {
+        Ok(count) => println!(rt; "{text}: {count} obligations"),
+        Err(fault) => {
+            let number = fault.number();
+            let place = fault.place();
+            println!(rt; "{text}: refused with {number} at {place}")
+        }
     }
 }
 
@@ -46,13 +47,24 @@ fn print_fresh(rt: &HostRuntime, text: &str) -> io::Result<()> {
     println!(rt; "{text}: {said} when fresh")
 }
 
+fn print_last(rt: &HostRuntime) -> io::Result<()> {
+    let (refused, count) = last_answer();
+    match refused {
+        Some(fault) => {
+            let number = fault.number();
+            let place = fault.place();
+            println!(rt; "4,096 events: refused with {number} at {place}, {count} stand")
+        }
+        None => println!(rt; "4,096 events: {count} stand"),
+    }
+}
+
 fn print_examples(rt: &HostRuntime) -> io::Result<()> {
     print_obligations(rt, "o o o o o o o a")?;
     print_obligations(rt, "o o o o o o o o a")?;
     print_fresh(rt, "(<> a) /\\ ([] !a)")?;
     print_fresh(rt, "[] !(a /\\ b)")?;
-    let (number, place, count) = last_answer();
-    println!(rt; "4,096 events: refused with {number} at {place}, {count} stand")
+    print_last(rt)
 }
 
 // The first line of the report on a file with so many events.
@@ -66,35 +78,31 @@ fn print_long(rt: &HostRuntime, events: u32, session: &mut Session) -> anyhow::R
     Ok(())
 }
 
-fn print_refusals(rt: &HostRuntime, tally: Tally) -> io::Result<()> {
-    for (number, count) in tally.refusals.iter().enumerate() {
-        let met = *count;
-        if met > 0 {
-            println!(rt; "refusal {number}: met {met} times")?;
-        }
+fn print_counts(rt: &HostRuntime, counts: Counts) -> io::Result<()> {
+    for (what, count) in [
+        ("rule texts", counts.texts),
+        ("name lists", counts.lists),
+        ("what readings show", counts.shown),
+        ("bindings", counts.bindings),
+        ("verdicts", counts.verdicts),
+        ("claims written", counts.written),
+        ("claims checked", counts.checks),
+        ("monitors opened", counts.openings),
+        ("lists of calls", counts.calls),
+        ("reports", counts.reports),
+    ] {
+        println!(rt; "{what}: {count}")?;
+    }
+    Ok(())
+}
+
+fn print_met(rt: &HostRuntime, tally: &Tally) -> io::Result<()> {
+    for (number, met) in tally.refusals.iter() {
+        println!(rt; "refusal {number}: met {met} times")?;
     }
     let for_good = tally.for_good;
     let so_far = tally.so_far;
     println!(rt; "standings: {for_good} for good, {so_far} so far")
-}
-
-fn print_count(rt: &HostRuntime, what: &str, count: Count) -> io::Result<()> {
-    let compared = count.compared;
-    let differ = count.differ;
-    println!(rt; "{what}: {compared} compared, {differ} differ")
-}
-
-fn print_tally(rt: &HostRuntime, tally: Tally) -> io::Result<()> {
-    print_count(rt, "rule texts", tally.texts)?;
-    print_count(rt, "name lists", tally.lists)?;
-    print_count(rt, "what readings show", tally.shown)?;
-    print_count(rt, "bindings", tally.bindings)?;
-    print_count(rt, "verdicts", tally.verdicts)?;
-    print_count(rt, "claims written", tally.written)?;
-    print_count(rt, "claims checked", tally.checks)?;
-    print_count(rt, "monitors opened", tally.openings)?;
-    print_count(rt, "lists of calls", tally.calls)?;
-    print_count(rt, "reports", tally.reports)
 }
 
 fn main(rt: HostRuntime) -> anyhow::Result<()> {
@@ -102,15 +110,14 @@ fn main(rt: HostRuntime) -> anyhow::Result<()> {
     let seed = argument(&rt, 1, 1)?;
     let cases = argument(&rt, 2, 2000)?;
     let mut session = Session::new(rt.alloc(), seed);
-    print_long(&rt, 1599, &mut session)?;
-    print_long(&rt, 1600, &mut session)?;
-    print_long(&rt, 4096, &mut session)?;
-    print_long(&rt, 8000, &mut session)?;
+    for events in [1599, 1600, 4096, 8000] {
+        print_long(&rt, events, &mut session)?;
+    }
     for _ in 0..cases {
         session.run::<Words>()?;
         session.run::<Panel>()?;
     }
-    print_tally(&rt, session.tally)?;
-    print_refusals(&rt, session.tally)?;
+    print_counts(&rt, session.tally.counts)?;
+    print_met(&rt, &session.tally)?;
     Ok(())
 }

@@ -1,61 +1,32 @@
 // Comparing what readings say, and what they refuse.
-use crate::same::both;
+use crate::same::same;
 use crate::source::Source;
-use readings::Reading;
-use reference::{Kind, codes, find, is_possible, shown, unnamed};
-use rules::Fault;
-use std::alloc::{AllocError, Global};
+use readings::{Named, Panel, Words};
+use reference::{Grade, Kind, Reading, Refusal, Set};
+use std::alloc::AllocError;
 
-// A reading of the library that is made from names.
-pub trait Named: Reading + Copy + Drop {
-    fn kind() -> Kind;
-
-    fn checked(names: &[&[u8]]) -> Result<usize, Fault>;
-
-    fn named(names: &[&[u8]]) -> Self;
+// A reading of the library, and its kind in the reference.
+pub trait Paired: Named + Copy + Drop {
+    const KIND: Kind;
 }
 
-impl Named for readings::Words {
-    fn kind() -> Kind {
-        Kind::Words
-    }
-
-    fn checked(names: &[&[u8]]) -> Result<usize, Fault> {
-        readings::Words::check(names)
-    }
-
-    fn named(names: &[&[u8]]) -> readings::Words {
-        readings::Words::new(names)
-    }
+impl Paired for Words {
+    const KIND: Kind = Kind::Words;
 }
 
-impl Named for readings::Panel {
-    fn kind() -> Kind {
-        Kind::Panel
-    }
-
-    fn checked(names: &[&[u8]]) -> Result<usize, Fault> {
-        readings::Panel::check(names)
-    }
-
-    fn named(names: &[&[u8]]) -> readings::Panel {
-        readings::Panel::new(names)
-    }
+impl Paired for Panel {
+    const KIND: Kind = Kind::Panel;
 }
 
 // Whether a list of names is refused alike.
-pub fn compare_names<R: Named>(names: &[&[u8]], plain: &[Vec<u8>]) -> bool {
-    match (R::checked(names), unnamed(R::kind(), plain)) {
-        (Ok(count), None) => count == names.len(),
-        (Err(fault), refusal) => both(Some(fault), refusal),
-        _ => false,
-    }
+pub fn same_names<R: Paired>(names: &[&[u8]], plain: &Result<Reading, Refusal>) -> bool {
+    same(R::check(names), plain, |count, _| count == names.len())
 }
 
 // A code, seldom one that the reading has not.
 pub fn some_code(source: &mut Source, kind: Kind) -> u32 {
     if source.one_in(50) {
-        return codes(kind).wrapping_add(source.below(3));
+        return kind.codes().wrapping_add(source.below(3));
     }
     match kind {
         Kind::Words => source.below(6),
@@ -67,33 +38,28 @@ pub fn some_code(source: &mut Source, kind: Kind) -> u32 {
     }
 }
 
-fn same_possible<R: Named>(reading: &R, names: usize, list: &[u8], set: u8) -> bool {
-    reading.possible(list, set) == is_possible(R::kind(), names, list, set)
-}
-
 // Whether a reading shows the same at a code for a list of numbers, has the same sets possible and finds the same name.
-pub fn compare_shown<R: Named>(
-    source: &mut Source,
-    reading: &R,
-    plain: &[Vec<u8>],
-    list: &[u8],
-) -> bool {
-    let code = some_code(source, R::kind());
+pub fn same_shown<R: Paired>(source: &mut Source, names: &[&[u8]], list: &[u8]) -> bool {
+    let reading = R::new(names);
+    let plain = Reading {
+        kind: R::KIND,
+        names,
+    };
+    let code = some_code(source, R::KIND);
     let set = (source.below(8) & 255) as u8;
     let sought = crate::texts::name(source.index(12));
-    let found = usize::from(reading.find(sought).unwrap_or(0));
     let (on, doubt) = reading.show(code, list);
-    let (plain_on, plain_doubt) = shown(R::kind(), plain.len(), code, list);
-    on == plain_on
-        && doubt == plain_doubt
-        && reading.codes() == codes(R::kind())
-        && found == find(plain, sought)
-        && (!source.one_in(8) || same_possible(reading, plain.len(), list, set))
+    plain.places(Grade::Kept, code, list) == Set(u64::from(on))
+        && plain.places(Grade::Unclear, code, list) == Set(u64::from(doubt))
+        && reading.codes() == R::KIND.codes()
+        && reading.find(sought).map(usize::from) == plain.find(sought)
+        && (!source.one_in(8)
+            || reading.possible(list, set) == plain.is_possible(list, Set(u64::from(set))))
 }
 
 // A list of numbers, some of which no name has.
-pub fn some_numbers(heap: Global, source: &mut Source) -> Result<Vec<u8>, AllocError> {
-    let mut list = Vec::new(heap);
+pub fn some_numbers(source: &mut Source) -> Result<Vec<u8>, AllocError> {
+    let mut list = Vec::new(source.heap);
     for _ in 0..source.below(11) {
         list.push((source.below(10) & 255) as u8)?;
     }

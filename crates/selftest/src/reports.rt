@@ -9,20 +9,15 @@ const WATCHES: bool = false;
 
 fn push_names(out: &mut Vec<u8>, count: usize) -> Result<(), AllocError> {
     out.extend_from_slice(b"names")?;
-    for i in 0..count {
+    for name in (0..count).map(name) {
         out.push(b'\t')?;
-        out.extend_from_slice(name(i))?;
+        out.extend_from_slice(name)?;
     }
     out.push(b'\n')?;
     Ok(())
 }
 
-fn push_event(
-    heap: Global,
-    source: &mut Source,
-    kind: Kind,
-    out: &mut Vec<u8>,
-) -> Result<(), AllocError> {
+fn push_event(source: &mut Source, kind: Kind, out: &mut Vec<u8>) -> Result<(), AllocError> {
     out.extend_from_slice(b"event\t")?;
     match kind {
         Kind::Words => out.extend_from_slice(name(source.index(12)))?,
@@ -33,7 +28,7 @@ fn push_event(
             } else {
                 255
             };
-            let state = format!(in heap; "{levels}\t{answers}")?;
+            let state = format!(in source.heap; "{levels}\t{answers}")?;
             out.extend_from_slice(state.as_bytes())?;
         }
     }
@@ -42,27 +37,22 @@ fn push_event(
 }
 
 // A file, now and then with a byte of it spoiled.
-pub fn some_file(
-    heap: Global,
-    source: &mut Source,
-    kind: Kind,
-    shape: Shape,
-) -> Result<Vec<u8>, AllocError> {
-    let mut out = Vec::new(heap);
+pub fn some_file(source: &mut Source, kind: Kind, shape: Shape) -> Result<Vec<u8>, AllocError> {
+    let mut out = Vec::new(source.heap);
     out.extend_from_slice(match kind {
         Kind::Words => b"reading\twords\n",
         Kind::Panel => b"reading\tpanel\n",
     })?;
     push_names(&mut out, source.index(4).saturating_add(shape.names))?;
     out.extend_from_slice(b"rule\t")?;
-    let text = rule_text(heap, source, shape)?;
+    let text = rule_text(source, shape)?;
     out.extend_from_slice(text.as_slice())?;
     out.push(b'\n')?;
     for _ in 0..source.below(7) {
-        push_event(heap, source, kind, &mut out)?;
+        push_event(source, kind, &mut out)?;
     }
     if source.one_in(4) {
-        return spoiled(heap, source, out.as_slice());
+        return spoiled(source, out.as_slice());
     }
     Ok(out)
 }
@@ -88,7 +78,8 @@ pub fn long_file(heap: Global, events: u32) -> Result<Vec<u8>, AllocError> {
     Ok(out)
 }
 
-pub fn compare_report(heap: Global, file: &[u8]) -> Result<bool, AllocError> {
+// Whether the library reports on a file what the reference does.
+pub fn same_report(heap: Global, file: &[u8]) -> Result<bool, AllocError> {
     let ours = files::report(heap, file)?;
     let theirs = reference::report(heap, file)?;
     if WATCHES {

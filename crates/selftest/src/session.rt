@@ -1,20 +1,17 @@
 // One case after another.
 use crate::call_lists::{compare_calls, some_calls};
-use crate::claim_lists::{compare_checks, compare_written};
-use crate::readings_shown::{Named, compare_names, compare_shown, some_code, some_numbers};
-use crate::reports::{compare_report, some_file};
+use crate::readings_shown::{Paired, same_names, same_shown, some_code, some_numbers};
+use crate::reports::{same_report, some_file};
 use crate::rule_texts::compare_text;
-use crate::same::{answered, both, same_refusal};
+use crate::same::{answered, same};
 use crate::source::Source;
 use crate::tally::Tally;
-use crate::texts::{Shape, first_names, lent, name_list, rule_text, spoiled};
-use crate::verdicts_said::compare_verdicts;
+use crate::texts::{Shape, first_names, name_list, rule_text, spoiled};
+use crate::trial::Trial;
+use crate::verdicts_said::Room;
 use monitor::Monitor;
 use readings::BoundRule;
-use reference::{
-    Formula, Record, Refusal, count_obligations, numbers_of, open_book, read_formula, record_of,
-    unbound, unheard_all, unnamed,
-};
+use reference::{Bound, Formula, Reading, count_obligations, open_book, read_formula};
 use rules::Rule;
 use std::alloc::{AllocError, Global};
 use verdicts::{ThreeWay, YesNo};
@@ -32,15 +29,15 @@ pub struct Session {
 struct Subject {
     rule: Rule,
     formula: Formula,
-    names: Vec<Vec<u8>>,
+    names: Vec<&'static [u8]>,
 }
 
 impl Session {
     pub fn new(heap: Global, seed: u64) -> Session {
         Session {
             heap,
-            source: Source::new(seed),
-            tally: Tally::none(),
+            source: Source::new(heap, seed),
+            tally: Tally::new(heap),
         }
     }
 
@@ -62,36 +59,30 @@ impl Session {
 
     fn texts(&mut self) -> Result<(), AllocError> {
         let shape = self.shape();
-        let text = rule_text(self.heap, &mut self.source, shape)?;
+        let text = rule_text(&mut self.source, shape)?;
         compare_text(self.heap, text.as_slice(), &mut self.tally)?;
-        let bad = spoiled(self.heap, &mut self.source, text.as_slice())?;
+        let bad = spoiled(&mut self.source, text.as_slice())?;
         compare_text(self.heap, bad.as_slice(), &mut self.tally)
     }
 
-    fn lists<R: Named>(&mut self) -> Result<(), AllocError> {
-        let names = name_list(self.heap, &mut self.source)?;
-        let views = lent(self.heap, names.as_slice())?;
-        let same = compare_names::<R>(views.as_slice(), names.as_slice());
-        self.tally.lists.note(same);
-        self.tally.refused(unnamed(R::kind(), names.as_slice()));
-        if R::checked(views.as_slice()).is_ok() {
-            let reading = R::named(views.as_slice());
-            let list = some_numbers(self.heap, &mut self.source)?;
-            let same = compare_shown(
-                &mut self.source,
-                &reading,
-                names.as_slice(),
-                list.as_slice(),
-            );
-            self.tally.shown.note(same);
+    fn lists<R: Paired>(&mut self) -> Result<(), AllocError> {
+        let names = name_list(&mut self.source)?;
+        let plain = Reading::new(R::KIND, names.as_slice());
+        let alike = same_names::<R>(names.as_slice(), &plain);
+        self.tally.counts.lists.note(alike);
+        self.tally.met(&plain)?;
+        if R::check(names.as_slice()).is_ok() {
+            let list = some_numbers(&mut self.source)?;
+            let alike = same_shown::<R>(&mut self.source, names.as_slice(), list.as_slice());
+            self.tally.counts.shown.note(alike);
         }
         Ok(())
     }
 
-    fn events<R: Named>(&mut self) -> Result<Vec<u32>, AllocError> {
+    fn events<R: Paired>(&mut self) -> Result<Vec<u32>, AllocError> {
         let mut events = Vec::new(self.heap);
         for _ in 0..self.source.below(8) {
-            events.push(some_code(&mut self.source, R::kind()))?;
+            events.push(some_code(&mut self.source, R::KIND))?;
         }
         Ok(events)
     }
@@ -104,104 +95,62 @@ impl Session {
         needed.saturating_add(self.source.index(3))
     }
 
-    fn judge<R: Named>(&mut self, subject: &Subject) -> Result<(), AllocError> {
-        let views = lent(self.heap, subject.names.as_slice())?;
-        let bound = BoundRule::new(subject.rule, R::named(views.as_slice()));
+    fn judge<R: Paired>(&mut self, ours: BoundRule<R>, plain: &Bound) -> Result<(), AllocError> {
         let events = self.events::<R>()?;
-        let numbers = numbers_of(self.heap, &subject.formula, subject.names.as_slice())?;
-        let record = record_of(self.heap, R::kind(), numbers.as_slice(), events.as_slice())?;
-        let strict = unheard_all(R::kind(), numbers.as_slice(), events.as_slice(), false);
-        let lax = unheard_all(R::kind(), numbers.as_slice(), events.as_slice(), true);
-        self.verdicts(
-            &bound,
-            events.as_slice(),
-            &subject.formula,
-            &record,
-            strict,
-            lax,
-        )?;
-        self.claims(&bound, events.as_slice(), &subject.formula, &record, strict)
+        let trial = Trial {
+            ours,
+            plain,
+            trace: events.as_slice(),
+            record: plain.record(self.heap, events.as_slice())?,
+        };
+        self.verdicts(&trial)?;
+        self.claims(&trial)
     }
 
     // The verdicts on both scales; one takes doubt and refuses less.
-    fn verdicts<R: Named>(
-        &mut self,
-        bound: &BoundRule<R>,
-        trace: &[u32],
-        formula: &Formula,
-        record: &Record,
-        strict: Option<Refusal>,
-        lax: Option<Refusal>,
-    ) -> Result<(), AllocError> {
-        let marks = self.room(record.marks.len());
-        let lent = (marks, self.room(formula.root().saturating_mul(2)));
-        let same = compare_verdicts::<YesNo, R>(
-            self.heap, bound, trace, formula, record, strict, lent,
-        )?;
-        self.tally.verdicts.note(same);
-        let same = compare_verdicts::<ThreeWay, R>(
-            self.heap, bound, trace, formula, record, lax, lent,
-        )?;
-        self.tally.verdicts.note(same);
-        self.tally.refused(strict);
-        self.tally.refused(lax);
+    fn verdicts<R: Paired>(&mut self, trial: &Trial<R>) -> Result<(), AllocError> {
+        let marks = trial.trace.len().saturating_mul(trial.plain.numbers.len());
+        let nodes = trial.plain.formula.root();
+        let room = Room {
+            marks: self.room(marks),
+            scratch: self.room(nodes.saturating_mul(2)),
+        };
+        let alike = trial.same_verdict::<YesNo>(self.heap, room)?;
+        self.tally.counts.verdicts.note(alike);
+        let alike = trial.same_verdict::<ThreeWay>(self.heap, room)?;
+        self.tally.counts.verdicts.note(alike);
+        for takes_doubt in [false, true] {
+            let heard = trial.plain.check_events(trial.trace, takes_doubt);
+            self.tally.met(&heard)?;
+        }
         Ok(())
     }
 
     // The claims that are written, and some lists made from them.
-    fn claims<R: Named>(
-        &mut self,
-        bound: &BoundRule<R>,
-        trace: &[u32],
-        formula: &Formula,
-        record: &Record,
-        refusal: Option<Refusal>,
-    ) -> Result<(), AllocError> {
-        let same = compare_written(self.heap, bound, trace, formula, record, refusal)?;
-        self.tally.written.note(same);
+    fn claims<R: Paired>(&mut self, trial: &Trial<R>) -> Result<(), AllocError> {
+        let alike = trial.same_written(self.heap)?;
+        self.tally.counts.written.note(alike);
         for _ in 0..4 {
-            let why = compare_checks(
-                self.heap,
-                &mut self.source,
-                bound,
-                trace,
-                formula,
-                record,
-                refusal,
-            )?;
-            self.tally.checks.note(why.is_ok());
-            if let Ok(why) = why {
-                self.tally.refused(why);
-            }
+            trial.compare_checks(&mut self.source, &mut self.tally)?;
         }
         Ok(())
     }
 
-    fn monitor<R: Named>(&mut self, subject: &Subject) -> Result<(), AllocError> {
-        let views = lent(self.heap, subject.names.as_slice())?;
-        let bound = BoundRule::new(subject.rule, R::named(views.as_slice()));
-        let counted = answered(count_obligations(self.heap, &subject.formula))?;
-        let same = match (Monitor::check(&bound), counted) {
-            (Ok(count), Ok(plain)) => count == plain,
-            (Err(fault), Err(refusal)) => same_refusal(fault, refusal),
-            _ => false,
-        };
-        self.tally.openings.note(same);
-        if let Err(refusal) = counted {
-            self.tally.refused(Some(refusal));
+    fn monitor<R: Paired>(&mut self, ours: BoundRule<R>, plain: &Bound) -> Result<(), AllocError> {
+        let counted = answered(count_obligations(self.heap, &plain.formula))?;
+        let count = Monitor::check(&ours);
+        let alike = same(count, &counted, |count, plain| count == *plain);
+        self.tally.counts.openings.note(alike);
+        self.tally.met(&counted)?;
+        if counted.is_err() {
             return Ok(());
         }
         let length = self.source.below(16);
-        let calls = some_calls(self.heap, &mut self.source, R::kind(), length)?;
-        let mut book = open_book(
-            self.heap,
-            &subject.formula,
-            R::kind(),
-            subject.names.as_slice(),
-        )?;
+        let calls = some_calls(&mut self.source, R::KIND, length)?;
+        let mut book = open_book(self.heap, plain)?;
         compare_calls(
             self.heap,
-            bound,
+            ours,
             calls.as_slice(),
             &mut book,
             &mut self.tally,
@@ -219,7 +168,7 @@ impl Session {
             names: self.source.index(4).saturating_add(1),
             deep: false,
         };
-        let text = rule_text(self.heap, &mut self.source, shape)?;
+        let text = rule_text(&mut self.source, shape)?;
         let mut rule = Rule::new();
         let known = if self.source.one_in(10) {
             self.source.index(4)
@@ -240,41 +189,51 @@ impl Session {
         }
     }
 
-    fn bind<R: Named>(&mut self) -> Result<(), AllocError> {
-        let Some(subject) = self.subject()? else {
+    fn bind<R: Paired>(&mut self) -> Result<(), AllocError> {
+        let Some(
+            Subject {
+                rule,
+                formula,
+                names,
+            },
+        ) = self.subject()?
+        else {
             return Ok(());
         };
-        let views = lent(self.heap, subject.names.as_slice())?;
-        let reading = R::named(views.as_slice());
-        let fault = BoundRule::check(&subject.rule, &reading).err();
-        let refusal = unbound(&subject.formula, subject.names.as_slice());
-        self.tally.bindings.note(both(fault, refusal));
-        self.tally.refused(refusal);
-        if refusal.is_some() {
-            return Ok(());
+        let reading = R::new(names.as_slice());
+        let plain = Reading {
+            kind: R::KIND,
+            names: names.as_slice(),
+        };
+        let plain = answered(plain.bind(self.heap, formula))?;
+        let alike = same(BoundRule::check(&rule, &reading), &plain, |_, _| true);
+        self.tally.counts.bindings.note(alike);
+        self.tally.met(&plain)?;
+        if let Ok(plain) = plain {
+            self.judge(BoundRule::new(rule, reading), &plain)?;
+            self.monitor(BoundRule::new(rule, reading), &plain)?;
         }
-        self.judge::<R>(&subject)?;
-        self.monitor::<R>(&subject)
+        Ok(())
     }
 
-    fn reports<R: Named>(&mut self) -> Result<(), AllocError> {
+    fn reports<R: Paired>(&mut self) -> Result<(), AllocError> {
         let shape = Shape {
             signs: self.source.below(14),
             names: self.source.index(4).saturating_add(1),
             deep: false,
         };
-        let file = some_file(self.heap, &mut self.source, R::kind(), shape)?;
+        let file = some_file(&mut self.source, R::KIND, shape)?;
         self.report(file.as_slice())
     }
 
     pub fn report(&mut self, file: &[u8]) -> Result<(), AllocError> {
-        let same = compare_report(self.heap, file)?;
-        self.tally.reports.note(same);
+        let alike = same_report(self.heap, file)?;
+        self.tally.counts.reports.note(alike);
         Ok(())
     }
 
     // One case of each kind, with one kind of reading.
-    pub fn run<R: Named>(&mut self) -> Result<(), AllocError> {
+    pub fn run<R: Paired>(&mut self) -> Result<(), AllocError> {
         self.texts()?;
         self.lists::<R>()?;
         self.bind::<R>()?;

@@ -1,12 +1,16 @@
 // Numbers that look random: a linear congruential generator of 64 bits.
+use std::alloc::Global;
+
+// The generator, and the heap for what is made from its numbers.
 #[derive(Clone, Copy)]
 pub struct Source {
+    pub heap: Global,
     state: u64,
 }
 
 impl Source {
-    pub fn new(seed: u64) -> Source {
-        Source { state: seed }
+    pub fn new(heap: Global, seed: u64) -> Source {
+        Source { heap, state: seed }
     }
 
     // The high bits of the next state, which are the better ones.
@@ -34,5 +38,11 @@ impl Source {
     // An index into a list of this length.
     pub fn index(&mut self, len: usize) -> usize {
         self.below((len & 0xffff) as u32) as usize
+    }
+
+    // An entry of a list that is not empty.
+    pub fn pick<T: Copy + Default>(&mut self, list: &[T]) -> T {
+        let i = self.index(list.len());
+        list.get(i).copied().unwrap_or_default()
     }
 }

@@ -1,20 +1,16 @@
 // How many answers were compared, and how many differ.
-use reference::Refusal;
+use reference::{Finality, Refusal};
+use std::alloc::{AllocError, Global};
+use std::collections::BTreeMap;
+use std::fmt;
 
-#[derive(Clone, Copy)]
+#[derive(Clone, Copy, Default, Debug)]
 pub struct Count {
-    pub compared: u64,
-    pub differ: u64,
+    compared: u64,
+    differ: u64,
 }
 
 impl Count {
-    pub fn none() -> Count {
-        Count {
-            compared: 0,
-            differ: 0,
-        }
-    }
-
     pub fn note(&mut self, same: bool) {
         self.compared = self.compared.saturating_add(1);
         if !same {
@@ -23,9 +19,17 @@ impl Count {
     }
 }
 
+impl fmt::Display for Count {
+    fn fmt<W: fmt::Write>(&self, f: &mut fmt::Formatter<W>) -> fmt::Result {
+        let compared = self.compared;
+        let differ = self.differ;
+        write!(f, "{compared} compared, {differ} differ")
+    }
+}
+
 // The counts of each kind of comparison.
-#[derive(Clone, Copy)]
-pub struct Tally {
+#[derive(Clone, Copy, Default, Debug)]
+pub struct Counts {
     pub texts: Count,
     pub lists: Count,
     pub shown: Count,
@@ -36,45 +40,43 @@ pub struct Tally {
     pub openings: Count,
     pub calls: Count,
     pub reports: Count,
-    // the refusals that were met, by number
-    pub refusals: [u64; 32],
+}
+
+// What was compared, and what was met on the way.
+#[derive(Drop)]
+pub struct Tally {
+    pub counts: Counts,
+    // how often each refusal was met, by number
+    pub refusals: BTreeMap<u8, u64>,
     // what monitors answered
     pub for_good: u64,
     pub so_far: u64,
 }
 
 impl Tally {
-    pub fn none() -> Tally {
-        let none = Count::none();
+    pub fn new(heap: Global) -> Tally {
         Tally {
-            texts: none,
-            lists: none,
-            shown: none,
-            bindings: none,
-            verdicts: none,
-            written: none,
-            checks: none,
-            openings: none,
-            calls: none,
-            reports: none,
-            refusals: [0; 32],
+            counts: Counts::default(),
+            refusals: BTreeMap::new(heap),
             for_good: 0,
             so_far: 0,
         }
     }
 
-    pub fn refused(&mut self, refusal: Option<Refusal>) {
-        if let Some(r) = refusal {
-            let i = usize::from(r.number) % 32;
-            self.refusals[i] = self.refusals[i].saturating_add(1);
+    // Counts the refusal of the reference, if it is one.
+    pub fn met<T>(&mut self, answer: &Result<T, Refusal>) -> Result<(), AllocError> {
+        if let Err(refusal) = answer {
+            let count = self.refusals.entry(refusal.reason as u8)?.or_insert(0);
+            *count = count.saturating_add(1);
         }
+        Ok(())
     }
 
-    pub fn told(&mut self, for_good: bool) {
-        if for_good {
-            self.for_good = self.for_good.saturating_add(1);
-        } else {
-            self.so_far = self.so_far.saturating_add(1);
-        }
+    pub fn told(&mut self, finality: Finality) {
+        let count = match finality {
+            Finality::ForGood => &mut self.for_good,
+            Finality::SoFar => &mut self.so_far,
+        };
+        *count = count.saturating_add(1);
     }
 }

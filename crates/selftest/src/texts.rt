@@ -91,8 +91,8 @@ impl Draft {
                 self.put(source, b"(")
             }
             1..=3 => {
-                let i = source.index(4);
-                self.put(source, PREFIXES[i % 4])
+                let prefix = source.pick(&PREFIXES);
+                self.put(source, prefix)
             }
             _ => self.operand(source, shape.names),
         }
@@ -105,8 +105,8 @@ impl Draft {
             return self.put(source, b")");
         }
         self.wants_operand = true;
-        let i = source.index(6);
-        self.put(source, JOINS[i % 6])
+        let join = source.pick(&JOINS);
+        self.put(source, join)
     }
 
     fn end(&mut self, source: &mut Source, names: usize) -> Result<(), AllocError> {
@@ -121,9 +121,9 @@ impl Draft {
 }
 
 // A rule text without fault, but that it may be too long or have too much in it.
-pub fn rule_text(heap: Global, source: &mut Source, shape: Shape) -> Result<Vec<u8>, AllocError> {
+pub fn rule_text(source: &mut Source, shape: Shape) -> Result<Vec<u8>, AllocError> {
     let mut draft = Draft {
-        bytes: Vec::new(heap),
+        bytes: Vec::new(source.heap),
         open: 0,
         wants_operand: true,
     };
@@ -139,64 +139,72 @@ pub fn rule_text(heap: Global, source: &mut Source, shape: Shape) -> Result<Vec<
     Ok(bytes)
 }
 
-fn spoiler(source: &mut Source) -> u8 {
-    let i = source.index(SPOILERS.len());
-    SPOILERS.get(i).copied().unwrap_or(b'a')
+// What becomes of one byte of a text.
+#[derive(Clone, Copy, Default)]
+enum Spoiling {
+    #[default]
+    LeaveOut,
+    Change,
+    PutBefore,
+    PutName,
+}
+
+const SPOILINGS: [Spoiling; 4] = [
+    Spoiling::LeaveOut,
+    Spoiling::Change,
+    Spoiling::PutBefore,
+    Spoiling::PutName,
+];
+
+impl Spoiling {
+    fn put(self, out: &mut Vec<u8>, source: &mut Source, byte: u8) -> Result<(), AllocError> {
+        match self {
+            Spoiling::LeaveOut => {}
+            Spoiling::Change => out.push(source.pick(SPOILERS))?,
+            Spoiling::PutBefore => {
+                out.push(source.pick(SPOILERS))?;
+                out.push(byte)?;
+            }
+            Spoiling::PutName => {
+                out.extend_from_slice(LONG)?;
+                out.push(byte)?;
+            }
+        }
+        Ok(())
+    }
 }
 
 // The text with a byte changed, put in or left out, or with a name put in.
-pub fn spoiled(heap: Global, source: &mut Source, text: &[u8]) -> Result<Vec<u8>, AllocError> {
+pub fn spoiled(source: &mut Source, text: &[u8]) -> Result<Vec<u8>, AllocError> {
     let at = source.index(text.len());
-    let how = source.below(4);
-    let mut out = Vec::new(heap);
+    let how = source.pick(&SPOILINGS);
+    let mut out = Vec::new(source.heap);
     for (i, b) in text.iter().enumerate() {
-        if i != at {
-            out.push(*b)?;
+        if i == at {
+            how.put(&mut out, source, *b)?;
         } else {
-            if how == 3 {
-                out.extend_from_slice(LONG)?;
-            } else if how > 0 {
-                out.push(spoiler(source))?;
-            }
-            if how > 1 {
-                out.push(*b)?;
-            }
+            out.push(*b)?;
         }
     }
     Ok(out)
 }
 
 // A list of names, most often a good one.
-pub fn name_list(heap: Global, source: &mut Source) -> Result<Vec<Vec<u8>>, AllocError> {
-    let mut names = Vec::new(heap);
+pub fn name_list(source: &mut Source) -> Result<Vec<&'static [u8]>, AllocError> {
     if source.one_in(3) {
+        let mut names = Vec::new(source.heap);
         for _ in 0..source.below(12) {
-            let i = source.index(12);
-            names.push(Vec::from_slice(heap, ENTRIES[i % 12])?)?;
+            names.push(source.pick(&ENTRIES))?;
         }
         return Ok(names);
     }
     let first = source.index(12);
-    for i in 0..source.index(10) {
-        names.push(Vec::from_slice(heap, name(first.saturating_add(i)))?)?;
-    }
-    Ok(names)
+    (0..source.index(10))
+        .map(|i| name(first.saturating_add(i)))
+        .collect(source.heap)
 }
 
 // The first names, so many.
-pub fn first_names(heap: Global, count: usize) -> Result<Vec<Vec<u8>>, AllocError> {
-    let mut names = Vec::new(heap);
-    for i in 0..count {
-        names.push(Vec::from_slice(heap, name(i))?)?;
-    }
-    Ok(names)
-}
-
-// The names as they are lent to the library.
-pub fn lent<'a>(heap: Global, names: &'a [Vec<u8>]) -> Result<Vec<&'a [u8]>, AllocError> {
-    let mut out = Vec::new(heap);
-    for n in names {
-        out.push(n.as_slice())?;
-    }
-    Ok(out)
+pub fn first_names(heap: Global, count: usize) -> Result<Vec<&'static [u8]>, AllocError> {
+    (0..count).map(name).collect(heap)
 }

@@ -1,169 +1,140 @@
 // Comparing verdicts on both scales, and what is written into lent memory.
-use crate::same::both;
-use readings::{BoundRule, Reading};
-use reference::{Formula, Record, Refusal, Values, values_of};
+use crate::same::same;
+use crate::trial::Trial;
+use readings::Reading;
+use reference::{Grade, Reason, Refusal, Values};
 use std::alloc::{AllocError, Global};
 use verdicts::{Scale, ThreeWay, YesNo, evaluate, valuate};
 
-// A scale, and the grades of the reference.
+// A scale, and the grades of the reference: both are other crates', so `grade` is no `From`.
 pub trait Graded: Scale + Clone + Copy + Drop {
-    fn grade(self) -> u8;
+    // Whether there is a grade for doubt.
+    const UNCLEAR: bool;
 
     // A value to fill memory with.
-    fn filler() -> Self;
+    const FILLER: Self;
 
-    fn takes_doubt() -> bool;
+    fn grade(self) -> Grade;
 }
 
 impl Graded for YesNo {
-    fn grade(self) -> u8 {
+    const UNCLEAR: bool = false;
+
+    const FILLER: YesNo = YesNo::Kept;
+
+    fn grade(self) -> Grade {
         match self {
-            YesNo::Broken => 0,
-            YesNo::Kept => 2,
+            YesNo::Broken => Grade::Broken,
+            YesNo::Kept => Grade::Kept,
         }
-    }
-
-    fn filler() -> YesNo {
-        YesNo::Kept
-    }
-
-    fn takes_doubt() -> bool {
-        false
     }
 }
 
 impl Graded for ThreeWay {
-    fn grade(self) -> u8 {
+    const UNCLEAR: bool = true;
+
+    const FILLER: ThreeWay = ThreeWay::Unclear;
+
+    fn grade(self) -> Grade {
         match self {
-            ThreeWay::Broken => 0,
-            ThreeWay::Unclear => 1,
-            ThreeWay::Kept => 2,
+            ThreeWay::Broken => Grade::Broken,
+            ThreeWay::Unclear => Grade::Unclear,
+            ThreeWay::Kept => Grade::Kept,
         }
-    }
-
-    fn filler() -> ThreeWay {
-        ThreeWay::Unclear
-    }
-
-    fn takes_doubt() -> bool {
-        true
     }
 }
 
-// The grade at an index, that of the filler past the end.
-fn grade_at<S: Graded>(values: &[S], i: usize) -> u8 {
-    match values.get(i) {
-        Some(v) => v.grade(),
-        None => S::filler().grade(),
-    }
+// How much memory is lent for the marks and for the scratch.
+#[derive(Clone, Copy)]
+pub struct Room {
+    pub marks: usize,
+    pub scratch: usize,
 }
 
-// Whether a valuation has the marks of the record, and the filler behind them.
-fn same_marks<S: Graded>(valuation: &[S], record: &Record) -> bool {
-    for (i, mark) in record.marks.iter().enumerate() {
-        if grade_at(valuation, i) != *mark {
-            return false;
-        }
-    }
-    unwritten(valuation, record.marks.len())
+// Whether lent memory has these grades, and the filler behind them.
+fn has_grades<S: Graded>(lent: &[S], grades: &[Grade]) -> bool {
+    lent.len() >= grades.len()
+        && lent.iter().enumerate().all(|(i, v)| v.grade()
+            == grades.get(i).copied().unwrap_or(S::FILLER.grade()))
 }
 
-// Whether memory from an index on is as it was.
-fn unwritten<S: Graded>(values: &[S], from: usize) -> bool {
-    for i in from..values.len() {
-        if values[i].grade() != S::filler().grade() {
-            return false;
-        }
-    }
-    true
+// Whether lent memory is as it was.
+fn unwritten<S: Graded>(lent: &[S]) -> bool {
+    has_grades(lent, &[])
 }
 
-// Whether the scratch has the nodes at place 1, and behind them those at place 2 where there is one.
-fn same_scratch<S: Graded>(scratch: &[S], values: &Values, nodes: usize, events: usize) -> bool {
-    for i in 0..nodes {
-        let j = i.saturating_add(1);
-        if grade_at(scratch, i) != values.at(j, 1) {
-            return false;
-        }
-        if events > 0 && grade_at(scratch, nodes.saturating_add(i)) != values.at(j, 2) {
-            return false;
-        }
+// The refusal of lent memory that is shorter than is needed.
+fn check_room(lent: usize, needed: usize) -> Result<(), Refusal> {
+    if lent < needed {
+        return Err(Reason::ShortBuffer.at(needed));
     }
-    unwritten(
-        scratch,
-        if events > 0 {
-            nodes.saturating_mul(2)
-        } else {
-            nodes
-        },
-    )
+    Ok(())
 }
 
-// Whether the evaluation of a valuation is the meaning.
-fn compare_evaluation<S: Graded>(
-    rule: &rules::Rule,
-    valuation: &[S],
-    scratch: &mut [S],
-    formula: &Formula,
-    record: &Record,
-    values: &Values,
-) -> bool {
-    let m = formula.root();
-    let needed = m.saturating_mul(2);
-    let short = scratch.len() < needed;
-    match evaluate(rule, record.events, valuation, scratch) {
-        Ok(v) => {
-            !short
-                && v.grade() == values.at(m, 1)
-                && same_scratch(scratch, values, m, record.events)
+impl<R: Reading> Trial<'_, R> {
+    // The marks of all events, one after another.
+    fn marks(&self, heap: Global) -> Result<Vec<Grade>, AllocError> {
+        let mut marks = Vec::new(heap);
+        for event in self.record.events.iter() {
+            marks.extend_from_slice(event.as_slice())?;
         }
-        Err(f) => short && f.number() == 15 && f.place() == needed && unwritten(scratch, 0),
+        Ok(marks)
     }
-}
 
-// Whether the library says what the reference does of a record, on one scale. `refusal` is why the events are refused, and the
-// memory that is lent has `more` values more than are needed, or one less.
-pub fn compare_verdicts<S: Graded, R: Reading>(
-    heap: Global,
-    bound: &BoundRule<R>,
-    trace: &[u32],
-    formula: &Formula,
-    record: &Record,
-    refusal: Option<Refusal>,
-    lent: (usize, usize),
-) -> Result<bool, AllocError> {
-    let needed = record.marks.len();
-    let mut valuation = vec![in heap; S::filler(); lent.0]?;
-    let laid = valuate(bound, trace, valuation.as_mut_slice());
-    if let Err(fault) = laid {
-        let short = lent.0 < needed;
-        let why = if short {
-            Some(short_of(needed))
-        } else {
-            refusal
+    // What the scratch holds in the end: the nodes at place 1, and behind them those at place 2 where there is one.
+    fn scratch(&self, heap: Global, values: &Values) -> Result<Vec<Grade>, AllocError> {
+        let mut grades = Vec::new(heap);
+        for place in 1..=self.record.places().min(2) {
+            for node in 1..=self.plain.formula.root() {
+                grades.push(values.at(node, place))?;
+            }
+        }
+        Ok(grades)
+    }
+
+    // Whether the evaluation of a valuation is the meaning.
+    fn same_evaluation<S: Graded>(
+        &self,
+        heap: Global,
+        valuation: &[S],
+        room: usize,
+    ) -> Result<bool, AllocError> {
+        let formula = &self.plain.formula;
+        let values = formula.values(heap, &self.record)?;
+        let written = self.scratch(heap, &values)?;
+        let mut scratch = vec![in heap; S::FILLER; room]?;
+        let said = evaluate(
+            self.ours.rule(),
+            self.trace.len(),
+            valuation,
+            scratch.as_mut_slice(),
+        );
+        let left = match said {
+            Ok(_) => has_grades(scratch.as_slice(), written.as_slice()),
+            Err(_) => unwritten(scratch.as_slice()),
         };
-        return Ok(both(Some(fault), why) && unwritten(valuation.as_slice(), 0));
+        let meant = check_room(room, formula.root().saturating_mul(2)).and(Ok(values.at(
+            formula.root(),
+            1,
+        )));
+        Ok(left && same(said, &meant, |v, grade| v.grade() == *grade))
     }
-    if lent.0 < needed || refusal.is_some() || !same_marks(valuation.as_slice(), record) {
-        return Ok(false);
-    }
-    let values = values_of(heap, formula, record)?;
-    let mut scratch = vec![in heap; S::filler(); lent.1]?;
-    Ok(compare_evaluation(
-        bound.rule(),
-        valuation.as_slice(),
-        scratch.as_mut_slice(),
-        formula,
-        record,
-        &values,
-    ))
-}
 
-// That lent memory is shorter than this.
-fn short_of(needed: usize) -> Refusal {
-    Refusal {
-        number: 15,
-        layer: 4,
-        place: needed,
+    // Whether the library says what the reference does of the record, on one scale.
+    pub fn same_verdict<S: Graded>(&self, heap: Global, room: Room) -> Result<bool, AllocError> {
+        let marks = self.marks(heap)?;
+        let mut valuation = vec![in heap; S::FILLER; room.marks]?;
+        let laid = valuate(&self.ours, self.trace, valuation.as_mut_slice());
+        let meant = check_room(room.marks, marks.len()).and(
+            self.plain.check_events(self.trace, S::UNCLEAR),
+        );
+        if laid.is_err() {
+            return Ok(unwritten(valuation.as_slice()) && same(laid, &meant, |_, _| true));
+        }
+        Ok(
+            meant.is_ok()
+                && has_grades(valuation.as_slice(), marks.as_slice())
+                && self.same_evaluation(heap, valuation.as_slice(), room.scratch)?,
+        )
     }
 }
