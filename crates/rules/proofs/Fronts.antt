@@ -1,8 +1,9 @@
 -- The front of a text whose first bytes are known. Assumes nothing.
-use Rattle.std.proofs.Common.{◌≡◌, ℕ, suc, ◌+◌, ◌-◌, ◌<◌, ◌≤◌, true, false, cond, leb, List, [], ◌∷◌, ◌++◌, length, get_or, take, drop, set, replicate, Some, None, Option, sym, refl, ap, ◌∙◌, subst, append_assoc, add-one, arith, length-drop, length-take-le, drop-cons, take-suc}
-use lib.Seq.{set_at}
-use Rattle.std.proofs.lemmas.List.{take_rest, drop_all}
-use Rattle.std.proofs.lemmas.Bool.{cond-true, cond-false, cond_both, lt-leb}
+use Rattle.std.proofs.Common.{◌≡◌, ℕ, suc, ◌+◌, ◌-◌, ◌<◌, ◌≤◌, true, false, leb, List, [], ◌∷◌, length, get_or, take, drop, Some, None, Option, sym, refl, ap, ◌∙◌, subst, arith, length-drop}
+use denote.Enum.Bare.{sameb}
+use Rattle.std.proofs.lemmas.List.{take_rest}
+use Rattle.std.proofs.lemmas.Bool.{cond-true, cond-false, cond_both}
+use Rattle.rules.specs.contracts.sign.Class.{the_type}
 use Rattle.rules.specs.declared.sign.Class.{Class}
 use Rattle.rules.specs.declared.sign.Class.TheVariants.{Letter, Digit, Blank, Mark, Other}
 use Rattle.rules.specs.Signs.{Lexed, sign, marked, run, class, in_word, skipped, is_blank, is_letter, bad, reserved_of, named, name_of, worded, lex_at, lex, try, starts}
@@ -31,27 +32,6 @@ front3 (a ∷ b ∷ c ∷ s) x y z h e f g = λ i. e i ∷ f i ∷ g i ∷ s
 pub rest_sign : (n : ℕ) (s : List ℕ) (m : Sign) → sign m (drop n s) ≡ sign m (take (length s - n) (drop n s))
 rest_sign n s m = ap (sign m) (sym (take_rest s n))
 
-run_at : (s : List ℕ) (n : ℕ) → n < length s → run (drop n s) ≡ cond (in_word (class (get_or s n 0))) (suc (run (drop (suc n) s))) 0
-run_at s n h = ap run (drop-cons s n 0 h)
-
-pub run_more : (s : List ℕ) (n : ℕ) → n < length s → in_word (class (get_or s n 0)) ≡ true → n + run (drop n s) ≡ n + 1 + run (drop (n + 1) s)
-run_more s n h e =
-    let b = run_at s n h ∙ cond-true (in_word (class (get_or s n 0))) (suc (run (drop (suc n) s))) 0 e in
-    rw add-one (omega (arith, b))
-
-pub run_stop : (s : List ℕ) (n : ℕ) → n < length s → in_word (class (get_or s n 0)) ≡ false → run (drop n s) ≡ 0
-run_stop s n h e = run_at s n h ∙ cond-false (in_word (class (get_or s n 0))) (suc (run (drop (suc n) s))) 0 e
-
-pub run_end : (s : List ℕ) (n : ℕ) → length s ≤ n → run (drop n s) ≡ 0
-run_end s n h = ap run (drop_all n s h)
-
-pub not_in : (x : Class) → (x ≡ Letter → ⊥) → (x ≡ Digit → ⊥) → in_word x ≡ false
-not_in Letter a b = absurd (a refl)
-not_in Digit a b = absurd (b refl)
-not_in Blank a b = refl
-not_in Mark a b = refl
-not_in Other a b = refl
-
 pub skip_more : (s : List ℕ) → 1 ≤ length s → Blank ≡ class (get_or s 0 0) → skipped (take (length s - 1) (drop 1 s)) ≡ skipped s
 skip_more [] h e = absurd (omega arith)
 skip_more (b ∷ s) h e =
@@ -61,18 +41,15 @@ pub skip_end : (s : List ℕ) → length s < 1 → s ≡ skipped s
 skip_end [] h = refl
 skip_end (b ∷ s) h = absurd (omega arith)
 
-pub run_le : (s : List ℕ) → run s ≤ length s
-run_le [] = omega arith
-run_le (b ∷ s) =
-    let h = run_le s in
-    cond_both (in_word (class b)) (suc (run s)) 0 (λ n. n ≤ suc (length s)) (λ _. omega arith) (λ _. omega arith)
+-- the test for a letter, as the code makes it
+pub letter_test : (x : Class) → sameb the_type x Letter ≡ is_letter x
+letter_test Letter = refl
+letter_test Digit = refl
+letter_test Blank = refl
+letter_test Mark = refl
+letter_test Other = refl
 
-pub too_long : (s w : List ℕ) (n : ℕ) (o : Option Sign) → n ≡ run s → w ≡ take n s → o ≡ reserved_of w → o ≡ None → 12 < n → worded s ≡ bad (record { why = LongName; left = length s })
-too_long s w n o a b c d h =
-    let none : reserved_of (take (run s) s) ≡ None = ap (λ k. reserved_of (take k s)) (sym a) ∙ ap reserved_of (sym b) ∙ sym c ∙ d in
-    ap (λ x. named x s) none ∙ cond-false (leb (run s) 12) _ _ (lt-leb (run s) 12 (omega arith))
-
-pub lex_end : (s t : List ℕ) → t ≡ skipped s → length t < 1 → lex s ≡ sign End t
+pub lex_end : (s t : List ℕ) → t ≡ skipped s → length t < 1 → lex s ≡ sign End []
 unfolding lex
 lex_end s [] e h = ap lex_at (sym e)
 lex_end s (b ∷ t) e h = absurd (omega arith)
@@ -86,13 +63,6 @@ pub lex_mark : (s t : List ℕ) → t ≡ skipped s → 1 ≤ length t → is_le
 unfolding lex
 lex_mark s [] e h i = absurd (omega arith)
 lex_mark s (b ∷ t) e h i = ap lex_at (sym e) ∙ cond-false (is_letter (class b)) (worded (b ∷ t)) (marked (b ∷ t)) i
-
-pub no_letter_lem : (x : Class) → (x ≡ Letter → ⊥) → is_letter x ≡ false
-no_letter_lem Letter a = absurd (a refl)
-no_letter_lem Digit a = refl
-no_letter_lem Blank a = refl
-no_letter_lem Mark a = refl
-no_letter_lem Other a = refl
 
 -- the sign at the front, as an arm names it
 pub is_sign : {l : Lexed} {r : List ℕ} {m n : Sign} → l ≡ sign m r → m ≡ n → l ≡ sign n r
@@ -134,7 +104,7 @@ in_letter Other e = e
 
 takes_word : (b : ℕ) (s : List ℕ) → is_letter (class b) ≡ true → Takes (worded (b ∷ s)) (suc (length s))
 takes_word b s e =
-    let r : run (b ∷ s) ≡ suc (run s) = cond-true (in_word (class b)) (suc (run s)) 0 (in_letter (class b) e) in
+    let r : run (b ∷ s) ≡ 1 + run s = cond-true (in_word (class b)) (1 + run s) 0 (in_letter (class b) e) in
     takes_named (reserved_of (take (run (b ∷ s)) (b ∷ s))) (b ∷ s) (suc (length s)) (omega (arith, r, length-drop (run (b ∷ s)) (b ∷ s)))
 
 takes_at : (s : List ℕ) → Takes (lex_at s) (length s)
@@ -162,11 +132,3 @@ shorter_before s e = shorter s e (λ n. let z : ◌≡◌ {A = ℕ} 0 1 = cc in 
 
 pub shorter_open : (s : List ℕ) {r : List ℕ} → lex s ≡ sign Open r → length r < length s
 shorter_open s e = shorter s e (λ n. let z : ◌≡◌ {A = ℕ} 0 1 = cc in omega arith)
-
-pub copy_more : (s b : List ℕ) (i : ℕ) → i < 12 → i < length s → b ≡ take i s ++ drop i (replicate 12 0) → set b i (get_or s i 0) ≡ take (i + 1) s ++ drop (i + 1) (replicate 12 0)
-copy_more s b i h k e =
-    let z : List ℕ = replicate 12 0 in
-    let split : drop i z ≡ get_or z i 0 ∷ drop (suc i) z = drop-cons z i 0 h in
-    let put : set (take i s ++ get_or z i 0 ∷ drop (suc i) z) i (get_or s i 0) ≡ take i s ++ get_or s i 0 ∷ drop (suc i) z = set_at (take i s) (get_or z i 0) (drop (suc i) z) (get_or s i 0) i (length-take-le i s (omega arith)) in
-    let more : take (suc i) s ++ drop (suc i) z ≡ take i s ++ get_or s i 0 ∷ drop (suc i) z = ap (λ l. l ++ drop (suc i) z) (take-suc s i 0 k) ∙ append_assoc (take i s) (get_or s i 0 ∷ []) (drop (suc i) z) in
-    rw add-one (ap (λ l. set l i (get_or s i 0)) (e ∙ ap (λ l. take i s ++ l) split) ∙ put ∙ sym more)

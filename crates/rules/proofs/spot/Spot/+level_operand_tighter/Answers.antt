@@ -6,8 +6,8 @@ use Rattle.rules.specs.Rest.{rank_at}
 use Rattle.rules.proofs.Fronts.{is_sign, shorter_between, shorter_before, shorter_open}
 use Rattle.rules.proofs.Levels.{behind_between, name_parsed, truth_parsed, before_parsed, group_parsed, start, rank_next, no_rank, Side, side_shorter, turn_on}
 use Rattle.rules.proofs.Steps.{later, at_once, at_bad, full_name, full_truth, full_before, full_between, many_names, too_deep, no_operand, behind_before, behind_open}
-use Rattle.rules.proofs.parse.+level_operand_tighter.Goals as goal
-use Rattle.rules.proofs.parse.+level_operand_tighter.Goals.{level-then-to_right+in_ok-level, level-else-to_right+in_ok-right}
+use Rattle.rules.proofs.spot.Spot.+level_operand_tighter.Goals as goal
+use Rattle.rules.proofs.spot.Spot.+level_operand_tighter.Goals.{level-then-to_right+in_ok-level, level-else-to_right+in_ok-right}
 
 -- LEVEL
 
@@ -28,17 +28,12 @@ level-returns-then-rank-k t c =
     let e = is_sign c.in_ok-m.ensures c.in-Between.is in
     (so.parsed, omega (arith, rank_next c.loop-m.rest.now e, so.below))
 
-pub level-overflow_add-table : goal.level-overflow_add-table
-level-overflow_add-table t c =
-    let so = c.loop-m.invariant c.args.table.now (start c.in_ok-left.ensures) in
-    record { fits = omega (arith, so.parsed.fits) }
-
 pub level-returns-in_err-room : goal.level-returns-in_err-room
 level-returns-in_err-room t c =
     let so = c.loop-m.invariant c.args.table.now (start c.in_ok-left.ensures) in
     let e = is_sign c.in_ok-m.ensures c.in-Between.is in
     let p = err_from_is_err_and c.from_residual-in_err-room.result c.from_residual-in_err-room.ensures.1 in
-    rw (p.1, p.2) (later so.parsed.scans (full_between c.loop-m.rest.now c.in_ok-m.after.now c.args.depth (c.loop-m.table.size + c.args.pending) (names_in c.loop-m.table) e c.in_err-room.ensures))
+    rw (p.1, p.2) (later so.parsed.scans (full_between c.loop-m.rest.now c.in_ok-m.after.now c.args.self.depth (c.loop-m.table.size + c.args.self.pending) (names_in c.loop-m.table) e c.in_err-room.ensures))
 
 pub level-level-requires : goal.level-level-requires
 level-level-requires t c =
@@ -67,13 +62,13 @@ level-returns-in_err-right t c =
     rw (p.1, p.2) (behind_between so.parsed e c.in_ok-room.ensures c.in_err-right.ensures)
 
 -- both ways of the right side
-side : (t : ℕ) (c : goal.level-After-put-left t) → Side c.args.total c.in-Between.b c.args.k c.in_ok-m.after.now c.if-to_right.right.1.now c.args.depth (c.args.pending + 1) c.loop-m.table c.if-to_right.table c.if-to_right.right.0
+side : (t : ℕ) (c : goal.level-After-put-left t) → Side c.args.self.total c.in-Between.b c.args.k c.in_ok-m.after.now c.if-to_right.right.1.now c.args.self.depth (c.args.self.pending + 1) c.loop-m.table c.if-to_right.table c.if-to_right.right.0
 side t c =
     elim c.if-to_right.branch [
       | level-then-to_right+in_ok-level w ↦
-          inl (sym w.if-to_right.ensures, subst₂ (λ r u. Parsed c.args.total c.args.k c.in_ok-m.after.now r.1.now c.args.depth (c.args.pending + 1) c.loop-m.table u r.0 × (rank_at r.1.now < c.args.k)) (sym w.right-is) (sym w.table-is) w.in_ok-level.ensures)
+          inl (sym w.if-to_right.ensures, subst₂ (λ r u. Parsed c.args.self.total c.args.k c.in_ok-m.after.now r.1.now c.args.self.depth (c.args.self.pending + 1) c.loop-m.table u r.0 × (rank_at r.1.now < c.args.k)) (sym w.right-is) (sym w.table-is) w.in_ok-level.ensures)
       | level-else-to_right+in_ok-right w ↦
-          inr (sym w.if-to_right.ensures, subst₂ (λ r u. Parsed c.args.total (suc c.args.k) c.in_ok-m.after.now r.1.now c.args.depth (c.args.pending + 1) c.loop-m.table u r.0 × (rank_at r.1.now < suc c.args.k)) (sym w.right-is) (sym w.table-is) w.in_ok-right.ensures)
+          inr (sym w.if-to_right.ensures, subst₂ (λ r u. Parsed c.args.self.total (suc c.args.k) c.in_ok-m.after.now r.1.now c.args.self.depth (c.args.self.pending + 1) c.loop-m.table u r.0 × (rank_at r.1.now < suc c.args.k)) (sym w.right-is) (sym w.table-is) w.in_ok-right.ensures)
     ]
 
 pub level-loop-m-smaller : goal.level-loop-m-smaller
@@ -97,17 +92,17 @@ operand-returns-in_err-m t c =
 pub operand-returns-in_err-room-in-Name : goal.operand-returns-in_err-room-in-Name
 operand-returns-in_err-room-in-Name t c =
     let p = err_from_is_err_and c.from_residual-in_err-room-in-Name.result c.from_residual-in_err-room-in-Name.ensures.1 in
-    rw (p.1, p.2) (full_name c.args.s.now c.in_ok-m.rest.now c.args.depth (c.args.table.now.size + c.args.pending) (names_in c.args.table.now) (is_sign c.in_ok-m.ensures c.in-Name.is) c.in_err-room-in-Name.ensures)
+    rw (p.1, p.2) (full_name c.args.s.now c.in_ok-m.rest.now c.args.self.depth (c.args.table.now.size + c.args.self.pending) (names_in c.args.table.now) (is_sign c.in_ok-m.ensures c.in-Name.is) c.in_err-room-in-Name.ensures)
 
 pub operand-returns-in_err-room-in-Truth : goal.operand-returns-in_err-room-in-Truth
 operand-returns-in_err-room-in-Truth t c =
     let p = err_from_is_err_and c.from_residual-in_err-room-in-Truth.result c.from_residual-in_err-room-in-Truth.ensures.1 in
-    rw (p.1, p.2) (full_truth c.args.s.now c.in_ok-m.rest.now c.args.depth (c.args.table.now.size + c.args.pending) (names_in c.args.table.now) (is_sign c.in_ok-m.ensures c.in-Truth.is) c.in_err-room-in-Truth.ensures)
+    rw (p.1, p.2) (full_truth c.args.s.now c.in_ok-m.rest.now c.args.self.depth (c.args.table.now.size + c.args.self.pending) (names_in c.args.table.now) (is_sign c.in_ok-m.ensures c.in-Truth.is) c.in_err-room-in-Truth.ensures)
 
 pub operand-returns-in_err-room-in-Before : goal.operand-returns-in_err-room-in-Before
 operand-returns-in_err-room-in-Before t c =
     let p = err_from_is_err_and c.from_residual-in_err-room-in-Before.result c.from_residual-in_err-room-in-Before.ensures.1 in
-    rw (p.1, p.2) (full_before c.args.s.now c.in_ok-m.rest.now c.args.depth (c.args.table.now.size + c.args.pending) (names_in c.args.table.now) (is_sign c.in_ok-m.ensures c.in-Before.is) c.in_err-room-in-Before.ensures)
+    rw (p.1, p.2) (full_before c.args.s.now c.in_ok-m.rest.now c.args.self.depth (c.args.table.now.size + c.args.self.pending) (names_in c.args.table.now) (is_sign c.in_ok-m.ensures c.in-Before.is) c.in_err-room-in-Before.ensures)
 
 pub operand-operand-requires : goal.operand-operand-requires
 operand-operand-requires t c =
@@ -116,10 +111,10 @@ operand-operand-requires t c =
 pub operand-returns-in_err-a-in-Before : goal.operand-returns-in_err-a-in-Before
 operand-returns-in_err-a-in-Before t c =
     let p = err_from_is_err_and c.from_residual-in_err-a-in-Before.result c.from_residual-in_err-a-in-Before.ensures.1 in
-    rw (p.1, p.2) (behind_before c.args.s.now c.in_ok-m.rest.now c.args.depth c.args.table.now.size (names_in c.args.table.now) c.args.pending (is_sign c.in_ok-m.ensures c.in-Before.is) c.in_ok-room-in-Before.ensures c.in_err-a-in-Before.ensures)
+    rw (p.1, p.2) (behind_before c.args.s.now c.in_ok-m.rest.now c.args.self.depth c.args.table.now.size (names_in c.args.table.now) c.args.self.pending (is_sign c.in_ok-m.ensures c.in-Before.is) c.in_ok-room-in-Before.ensures c.in_err-a-in-Before.ensures)
 
-pub operand-returns-then-depth-eq-DEPTH : goal.operand-returns-then-depth-eq-DEPTH
-operand-returns-then-depth-eq-DEPTH t c = too_deep c.args.s.now c.in_ok-m.rest.now c.args.depth (c.args.table.now.size + c.args.pending) (names_in c.args.table.now) (is_sign c.in_ok-m.ensures c.in-Open.is) (omega arith) c.stop_at.ensures
+pub operand-returns-then-self-ge-DEPTH : goal.operand-returns-then-self-ge-DEPTH
+operand-returns-then-self-ge-DEPTH t c = too_deep c.args.s.now c.in_ok-m.rest.now c.args.self.depth (c.args.table.now.size + c.args.self.pending) (names_in c.args.table.now) (is_sign c.in_ok-m.ensures c.in-Open.is) (omega arith) c.at.ensures
 
 pub operand-level-requires : goal.operand-level-requires
 operand-level-requires t c = omega (arith, shorter_open c.args.s.now (is_sign c.in_ok-m.ensures c.in-Open.is))
@@ -127,17 +122,17 @@ operand-level-requires t c = omega (arith, shorter_open c.args.s.now (is_sign c.
 pub operand-returns-in_err-a-in-Open : goal.operand-returns-in_err-a-in-Open
 operand-returns-in_err-a-in-Open t c =
     let p = err_from_is_err_and c.from_residual-in_err-a-in-Open.result c.from_residual-in_err-a-in-Open.ensures.1 in
-    rw (p.1, p.2) (behind_open c.args.s.now c.in_ok-m.rest.now c.args.depth (c.args.table.now.size + c.args.pending) (names_in c.args.table.now) (is_sign c.in_ok-m.ensures c.in-Open.is) (omega arith) c.in_err-a-in-Open.ensures)
+    rw (p.1, p.2) (behind_open c.args.s.now c.in_ok-m.rest.now c.args.self.depth (c.args.table.now.size + c.args.self.pending) (names_in c.args.table.now) (is_sign c.in_ok-m.ensures c.in-Open.is) (omega arith) c.in_err-a-in-Open.ensures)
 
 pub operand-returns-in_err-after-in-Open : goal.operand-returns-in_err-after-in-Open
 operand-returns-in_err-after-in-Open t c =
     let p = err_from_is_err_and c.from_residual-in_err-after-in-Open.result c.from_residual-in_err-after-in-Open.ensures.1 in
-    rw (p.1, p.2) (behind_open c.args.s.now c.in_ok-m.rest.now c.args.depth (c.args.table.now.size + c.args.pending) (names_in c.args.table.now) (is_sign c.in_ok-m.ensures c.in-Open.is) (omega arith) (later c.in_ok-a-in-Open.ensures.0.scans (at_once (c.in_err-after-in-Open.ensures _))))
+    rw (p.1, p.2) (behind_open c.args.s.now c.in_ok-m.rest.now c.args.self.depth (c.args.table.now.size + c.args.self.pending) (names_in c.args.table.now) (is_sign c.in_ok-m.ensures c.in-Open.is) (omega arith) (later c.in_ok-a-in-Open.ensures.0.scans (at_once (c.in_err-after-in-Open.ensures _ _))))
 
 pub operand-returns-in_err-i-in-Name : goal.operand-returns-in_err-i-in-Name
 operand-returns-in_err-i-in-Name t c =
     let p = err_from_is_err_and c.from_residual-in_err-i-in-Name.result c.from_residual-in_err-i-in-Name.ensures.1 in
-    rw (p.1, p.2) (many_names c.args.s.now c.in_ok-m.rest.now c.args.depth (c.args.table.now.size + c.args.pending) (names_in c.args.table.now) (is_sign c.in_ok-m.ensures c.in-Name.is) c.in_ok-room-in-Name.ensures c.in_err-i-in-Name.ensures)
+    rw (p.1, p.2) (many_names c.args.s.now c.in_ok-m.rest.now c.args.self.depth (c.args.table.now.size + c.args.self.pending) (names_in c.args.table.now) (is_sign c.in_ok-m.ensures c.in-Name.is) c.in_ok-room-in-Name.ensures c.in_err-i-in-Name.ensures)
 
 pub operand-returns-in_ok-i-in-Name : goal.operand-returns-in_ok-i-in-Name
 operand-returns-in_ok-i-in-Name t c =
@@ -145,7 +140,7 @@ operand-returns-in_ok-i-in-Name t c =
 
 pub operand-returns-in_ok-room-in-Truth : goal.operand-returns-in_ok-room-in-Truth
 operand-returns-in_ok-room-in-Truth t c =
-    truth_parsed (is_sign c.in_ok-m.ensures c.in-Truth.is) c.in_ok-room-in-Truth.ensures c.requires.few c.put-in-Truth.ensures
+    truth_parsed (is_sign c.in_ok-m.ensures c.in-Truth.is) c.in_ok-room-in-Truth.ensures c.put-in-Truth.ensures
 
 pub operand-returns-in_ok-a-in-Before : goal.operand-returns-in_ok-a-in-Before
 operand-returns-in_ok-a-in-Before t c =
@@ -157,4 +152,4 @@ operand-returns-in_ok-after-in-Open t c =
 
 pub operand-returns-in_default : goal.operand-returns-in_default
 operand-returns-in_default t c =
-    no_operand c.args.s.now c.in_ok-m.rest.now c.args.depth (c.args.table.now.size + c.args.pending) (names_in c.args.table.now) c.in_ok-m.ensures c.stop_at-in_default.ensures c.in_default.not-Before c.in_default.not-Truth c.in_default.not-Name c.in_default.not-Open
+    no_operand c.args.s.now c.in_ok-m.rest.now c.args.self.depth (c.args.table.now.size + c.args.self.pending) (names_in c.args.table.now) c.in_ok-m.ensures c.at-in_default.ensures c.in_default.not-Before c.in_default.not-Truth c.in_default.not-Name c.in_default.not-Open
