@@ -1,7 +1,6 @@
--- The front of a text whose first bytes are known. Assumes nothing.
-use Rattle.std.proofs.Common.{◌≡◌, ℕ, suc, ◌+◌, ◌-◌, ◌<◌, ◌≤◌, true, false, leb, List, [], ◌∷◌, length, get_or, take, drop, Some, None, Option, sym, refl, ap, ◌∙◌, subst, arith, length-drop}
+-- The sign at the front of a text. Assumes nothing.
+use Rattle.std.proofs.Common.{◌≡◌, ℕ, suc, ◌+◌, ◌<◌, ◌≤◌, true, false, leb, List, [], ◌∷◌, length, get_or, take, drop, Some, None, Option, sym, refl, ap, ◌∙◌, subst, arith, length-drop}
 use denote.Enum.Bare.{sameb}
-use Rattle.std.proofs.lemmas.List.{take_rest}
 use Rattle.std.proofs.lemmas.Bool.{cond-true, cond-false, cond_both}
 use Rattle.rules.specs.contracts.sign.Class.{the_type}
 use Rattle.rules.specs.declared.sign.Class.{Class}
@@ -12,34 +11,6 @@ use Rattle.rules.specs.declared.sign.Sign.TheVariants.{End, Between, Before, Ope
 use Rattle.rules.specs.declared.node.Binary.{Binary}
 use Rattle.rules.specs.declared.node.Unary.{Unary}
 use Rattle.rules.specs.declared.sign.Why.TheVariants.{LongName}
-
-pub front1 : (s : List ℕ) (x : ℕ) → 1 ≤ length s → get_or s 0 0 ≡ x → s ≡ x ∷ drop 1 s
-front1 [] x h e = absurd (omega arith)
-front1 (a ∷ s) x h e = ap (λ y. y ∷ s) e
-
-pub front2 : (s : List ℕ) (x y : ℕ) → 2 ≤ length s → get_or s 0 0 ≡ x → get_or s 1 0 ≡ y → s ≡ x ∷ y ∷ drop 2 s
-front2 [] x y h e f = absurd (omega arith)
-front2 (a ∷ []) x y h e f = absurd (omega arith)
-front2 (a ∷ b ∷ s) x y h e f = λ i. e i ∷ f i ∷ s
-
-pub front3 : (s : List ℕ) (x y z : ℕ) → 3 ≤ length s → get_or s 0 0 ≡ x → get_or s 1 0 ≡ y → get_or s 2 0 ≡ z → s ≡ x ∷ y ∷ z ∷ drop 3 s
-front3 [] x y z h e f g = absurd (omega arith)
-front3 (a ∷ []) x y z h e f g = absurd (omega arith)
-front3 (a ∷ b ∷ []) x y z h e f g = absurd (omega arith)
-front3 (a ∷ b ∷ c ∷ s) x y z h e f g = λ i. e i ∷ f i ∷ g i ∷ s
-
--- a pattern's rest, as the code has it
-pub rest_sign : (n : ℕ) (s : List ℕ) (m : Sign) → sign m (drop n s) ≡ sign m (take (length s - n) (drop n s))
-rest_sign n s m = ap (sign m) (sym (take_rest s n))
-
-pub skip_more : (s : List ℕ) → 1 ≤ length s → Blank ≡ class (get_or s 0 0) → skipped (take (length s - 1) (drop 1 s)) ≡ skipped s
-skip_more [] h e = absurd (omega arith)
-skip_more (b ∷ s) h e =
-    ap skipped (take_rest (b ∷ s) 1) ∙ sym (cond-true (is_blank (class b)) (skipped s) (b ∷ s) (sym (ap is_blank e)))
-
-pub skip_end : (s : List ℕ) → length s < 1 → s ≡ skipped s
-skip_end [] h = refl
-skip_end (b ∷ s) h = absurd (omega arith)
 
 -- the test for a letter, as the code makes it
 pub letter_test : (x : Class) → sameb the_type x Letter ≡ is_letter x

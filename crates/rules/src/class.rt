@@ -4,7 +4,7 @@ ghost use Rattle.rules.specs.Signs.{code, class, in_word};
 
 use crate::sign::Class;
 
-// Of each byte: L letter, D digit or underscore, B blank, S first byte of a sign that is no word, - none.
+// A class is one byte of this constant table, so that finding it takes one look: L letter, D digit or underscore, B blank, S first byte of a sign that is no word, - none.
 const CLASS: &[u8; 256] = b"\
     ---------B----------------------\
     BS------SS-S-S-SDDDDDDDDDD--S---\

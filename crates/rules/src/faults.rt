@@ -1,4 +1,4 @@
-// A fault's number, layer and place, as they are printed.
+// A fault's number, layer and place, as they are printed: the table of REFUSALS, case by case.
 ghost use Rattle.std.specs.Prelude.{◌≡◌};
 ghost use Rattle.rules.specs.Faults.{number_of, layer_of, layer_number, place_of};
 

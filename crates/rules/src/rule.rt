@@ -29,6 +29,7 @@ pub struct Table {
     ghost known: { count ≤ 8 },
 }
 
+// What is said of its size and count is the table's too: here readers of a rule find it.
 #[derive(Clone, Copy)]
 pub struct Rule {
     pub(crate) table: Table,

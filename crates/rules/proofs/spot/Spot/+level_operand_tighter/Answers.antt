@@ -1,11 +1,10 @@
-use Rattle.std.proofs.Common.{ℕ, suc, ◌+◌, ◌<◌, sym, ◌∙◌, subst₂, inl, inr, arith}
-use Rattle.std.proofs.lemmas.Result.{err_from_is_err_and}
+use Rattle.std.proofs.Common.{ℕ, suc, ◌+◌, ◌<◌, refl, sym, ◌∙◌, subst₂, inl, inr, arith}
 use Rattle.rules.specs.Descent.{Parsed}
 use Rattle.rules.specs.Names.{names_in}
 use Rattle.rules.specs.Rest.{rank_at}
 use Rattle.rules.proofs.Fronts.{is_sign, shorter_between, shorter_before, shorter_open}
 use Rattle.rules.proofs.Levels.{behind_between, name_parsed, truth_parsed, before_parsed, group_parsed, start, rank_next, no_rank, Side, side_shorter, turn_on}
-use Rattle.rules.proofs.Steps.{later, at_once, at_bad, full_name, full_truth, full_before, full_between, many_names, too_deep, no_operand, behind_before, behind_open}
+use Rattle.rules.proofs.Steps.{later, at_once, at_bad, full, stopped_at, many_names, too_deep, no_operand, behind_before, behind_open}
 use Rattle.rules.proofs.spot.Spot.+level_operand_tighter.Goals as goal
 use Rattle.rules.proofs.spot.Spot.+level_operand_tighter.Goals.{level-then-to_right+in_ok-level, level-else-to_right+in_ok-right}
 
@@ -14,8 +13,7 @@ use Rattle.rules.proofs.spot.Spot.+level_operand_tighter.Goals.{level-then-to_ri
 pub level-returns-in_err-m : goal.level-returns-in_err-m
 level-returns-in_err-m t c =
     let so = c.loop-m.invariant c.args.table.now (start c.in_ok-left.ensures) in
-    let p = err_from_is_err_and c.from_residual-in_err-m.result c.from_residual-in_err-m.ensures.1 in
-    rw (p.1, p.2) (later so.parsed.scans (at_bad {s = c.loop-m.rest.now} _ c.in_err-m.ensures))
+    stopped_at _ _ c.from_residual-in_err-m.ensures.1 (later so.parsed.scans (at_bad {s = c.loop-m.rest.now} _ c.in_err-m.ensures))
 
 pub level-returns-in_default : goal.level-returns-in_default
 level-returns-in_default t c =
@@ -32,8 +30,7 @@ pub level-returns-in_err-room : goal.level-returns-in_err-room
 level-returns-in_err-room t c =
     let so = c.loop-m.invariant c.args.table.now (start c.in_ok-left.ensures) in
     let e = is_sign c.in_ok-m.ensures c.in-Between.is in
-    let p = err_from_is_err_and c.from_residual-in_err-room.result c.from_residual-in_err-room.ensures.1 in
-    rw (p.1, p.2) (later so.parsed.scans (full_between c.loop-m.rest.now c.in_ok-m.after.now c.args.self.depth (c.loop-m.table.size + c.args.self.pending) (names_in c.loop-m.table) e c.in_err-room.ensures))
+    stopped_at _ _ c.from_residual-in_err-room.ensures.1 (later so.parsed.scans (full _ e refl c.in_err-room.ensures))
 
 pub level-level-requires : goal.level-level-requires
 level-level-requires t c =
@@ -45,8 +42,7 @@ pub level-returns-in_err-level : goal.level-returns-in_err-level
 level-returns-in_err-level t c =
     let so = c.loop-m.invariant c.args.table.now (start c.in_ok-left.ensures) in
     let e = is_sign c.in_ok-m.ensures c.in-Between.is in
-    let p = err_from_is_err_and c.from_residual-in_err-level.result c.from_residual-in_err-level.ensures.1 in
-    rw (p.1, p.2) (behind_between so.parsed e c.in_ok-room.ensures c.in_err-level.ensures)
+    stopped_at _ _ c.from_residual-in_err-level.ensures.1 (behind_between so.parsed e c.in_ok-room.ensures c.in_err-level.ensures)
 
 pub level-tighter-requires-else-to_right : goal.level-tighter-requires-else-to_right
 level-tighter-requires-else-to_right t c =
@@ -58,8 +54,7 @@ pub level-returns-in_err-right : goal.level-returns-in_err-right
 level-returns-in_err-right t c =
     let so = c.loop-m.invariant c.args.table.now (start c.in_ok-left.ensures) in
     let e = is_sign c.in_ok-m.ensures c.in-Between.is in
-    let p = err_from_is_err_and c.from_residual-in_err-right.result c.from_residual-in_err-right.ensures.1 in
-    rw (p.1, p.2) (behind_between so.parsed e c.in_ok-room.ensures c.in_err-right.ensures)
+    stopped_at _ _ c.from_residual-in_err-right.ensures.1 (behind_between so.parsed e c.in_ok-room.ensures c.in_err-right.ensures)
 
 -- both ways of the right side
 side : (t : ℕ) (c : goal.level-After-put-left t) → Side c.args.self.total c.in-Between.b c.args.k c.in_ok-m.after.now c.if-to_right.right.1.now c.args.self.depth (c.args.self.pending + 1) c.loop-m.table c.if-to_right.table c.if-to_right.right.0
@@ -86,23 +81,19 @@ level-loop-m-preserved t c = λ a s.
 
 pub operand-returns-in_err-m : goal.operand-returns-in_err-m
 operand-returns-in_err-m t c =
-    let p = err_from_is_err_and c.from_residual.result c.from_residual.ensures.1 in
-    rw (p.1, p.2) (at_bad _ c.in_err-m.ensures)
+    stopped_at _ _ c.from_residual.ensures.1 (at_bad _ c.in_err-m.ensures)
 
 pub operand-returns-in_err-room-in-Name : goal.operand-returns-in_err-room-in-Name
 operand-returns-in_err-room-in-Name t c =
-    let p = err_from_is_err_and c.from_residual-in_err-room-in-Name.result c.from_residual-in_err-room-in-Name.ensures.1 in
-    rw (p.1, p.2) (full_name c.args.s.now c.in_ok-m.rest.now c.args.self.depth (c.args.table.now.size + c.args.self.pending) (names_in c.args.table.now) (is_sign c.in_ok-m.ensures c.in-Name.is) c.in_err-room-in-Name.ensures)
+    stopped_at _ _ c.from_residual-in_err-room-in-Name.ensures.1 (full _ (is_sign c.in_ok-m.ensures c.in-Name.is) refl c.in_err-room-in-Name.ensures)
 
 pub operand-returns-in_err-room-in-Truth : goal.operand-returns-in_err-room-in-Truth
 operand-returns-in_err-room-in-Truth t c =
-    let p = err_from_is_err_and c.from_residual-in_err-room-in-Truth.result c.from_residual-in_err-room-in-Truth.ensures.1 in
-    rw (p.1, p.2) (full_truth c.args.s.now c.in_ok-m.rest.now c.args.self.depth (c.args.table.now.size + c.args.self.pending) (names_in c.args.table.now) (is_sign c.in_ok-m.ensures c.in-Truth.is) c.in_err-room-in-Truth.ensures)
+    stopped_at _ _ c.from_residual-in_err-room-in-Truth.ensures.1 (full _ (is_sign c.in_ok-m.ensures c.in-Truth.is) refl c.in_err-room-in-Truth.ensures)
 
 pub operand-returns-in_err-room-in-Before : goal.operand-returns-in_err-room-in-Before
 operand-returns-in_err-room-in-Before t c =
-    let p = err_from_is_err_and c.from_residual-in_err-room-in-Before.result c.from_residual-in_err-room-in-Before.ensures.1 in
-    rw (p.1, p.2) (full_before c.args.s.now c.in_ok-m.rest.now c.args.self.depth (c.args.table.now.size + c.args.self.pending) (names_in c.args.table.now) (is_sign c.in_ok-m.ensures c.in-Before.is) c.in_err-room-in-Before.ensures)
+    stopped_at _ _ c.from_residual-in_err-room-in-Before.ensures.1 (full _ (is_sign c.in_ok-m.ensures c.in-Before.is) refl c.in_err-room-in-Before.ensures)
 
 pub operand-operand-requires : goal.operand-operand-requires
 operand-operand-requires t c =
@@ -110,29 +101,25 @@ operand-operand-requires t c =
 
 pub operand-returns-in_err-a-in-Before : goal.operand-returns-in_err-a-in-Before
 operand-returns-in_err-a-in-Before t c =
-    let p = err_from_is_err_and c.from_residual-in_err-a-in-Before.result c.from_residual-in_err-a-in-Before.ensures.1 in
-    rw (p.1, p.2) (behind_before c.args.s.now c.in_ok-m.rest.now c.args.self.depth c.args.table.now.size (names_in c.args.table.now) c.args.self.pending (is_sign c.in_ok-m.ensures c.in-Before.is) c.in_ok-room-in-Before.ensures c.in_err-a-in-Before.ensures)
+    stopped_at _ _ c.from_residual-in_err-a-in-Before.ensures.1 (behind_before c.args.s.now c.in_ok-m.rest.now c.args.self.depth c.args.table.now.size (names_in c.args.table.now) c.args.self.pending (is_sign c.in_ok-m.ensures c.in-Before.is) c.in_ok-room-in-Before.ensures c.in_err-a-in-Before.ensures)
 
 pub operand-returns-then-self-ge-DEPTH : goal.operand-returns-then-self-ge-DEPTH
-operand-returns-then-self-ge-DEPTH t c = too_deep c.args.s.now c.in_ok-m.rest.now c.args.self.depth (c.args.table.now.size + c.args.self.pending) (names_in c.args.table.now) (is_sign c.in_ok-m.ensures c.in-Open.is) (omega arith) c.at.ensures
+operand-returns-then-self-ge-DEPTH t c = too_deep _ _ _ _ _ (is_sign c.in_ok-m.ensures c.in-Open.is) (omega arith) c.at.ensures
 
 pub operand-level-requires : goal.operand-level-requires
 operand-level-requires t c = omega (arith, shorter_open c.args.s.now (is_sign c.in_ok-m.ensures c.in-Open.is))
 
 pub operand-returns-in_err-a-in-Open : goal.operand-returns-in_err-a-in-Open
 operand-returns-in_err-a-in-Open t c =
-    let p = err_from_is_err_and c.from_residual-in_err-a-in-Open.result c.from_residual-in_err-a-in-Open.ensures.1 in
-    rw (p.1, p.2) (behind_open c.args.s.now c.in_ok-m.rest.now c.args.self.depth (c.args.table.now.size + c.args.self.pending) (names_in c.args.table.now) (is_sign c.in_ok-m.ensures c.in-Open.is) (omega arith) c.in_err-a-in-Open.ensures)
+    stopped_at _ _ c.from_residual-in_err-a-in-Open.ensures.1 (behind_open _ _ _ _ _ (is_sign c.in_ok-m.ensures c.in-Open.is) (omega arith) c.in_err-a-in-Open.ensures)
 
 pub operand-returns-in_err-after-in-Open : goal.operand-returns-in_err-after-in-Open
 operand-returns-in_err-after-in-Open t c =
-    let p = err_from_is_err_and c.from_residual-in_err-after-in-Open.result c.from_residual-in_err-after-in-Open.ensures.1 in
-    rw (p.1, p.2) (behind_open c.args.s.now c.in_ok-m.rest.now c.args.self.depth (c.args.table.now.size + c.args.self.pending) (names_in c.args.table.now) (is_sign c.in_ok-m.ensures c.in-Open.is) (omega arith) (later c.in_ok-a-in-Open.ensures.0.scans (at_once (c.in_err-after-in-Open.ensures _ _))))
+    stopped_at _ _ c.from_residual-in_err-after-in-Open.ensures.1 (behind_open _ _ _ _ _ (is_sign c.in_ok-m.ensures c.in-Open.is) (omega arith) (later c.in_ok-a-in-Open.ensures.0.scans (at_once (c.in_err-after-in-Open.ensures _ _))))
 
 pub operand-returns-in_err-i-in-Name : goal.operand-returns-in_err-i-in-Name
 operand-returns-in_err-i-in-Name t c =
-    let p = err_from_is_err_and c.from_residual-in_err-i-in-Name.result c.from_residual-in_err-i-in-Name.ensures.1 in
-    rw (p.1, p.2) (many_names c.args.s.now c.in_ok-m.rest.now c.args.self.depth (c.args.table.now.size + c.args.self.pending) (names_in c.args.table.now) (is_sign c.in_ok-m.ensures c.in-Name.is) c.in_ok-room-in-Name.ensures c.in_err-i-in-Name.ensures)
+    stopped_at _ _ c.from_residual-in_err-i-in-Name.ensures.1 (many_names _ _ _ _ _ (is_sign c.in_ok-m.ensures c.in-Name.is) c.in_ok-room-in-Name.ensures c.in_err-i-in-Name.ensures)
 
 pub operand-returns-in_ok-i-in-Name : goal.operand-returns-in_ok-i-in-Name
 operand-returns-in_ok-i-in-Name t c =
@@ -152,4 +139,4 @@ operand-returns-in_ok-after-in-Open t c =
 
 pub operand-returns-in_default : goal.operand-returns-in_default
 operand-returns-in_default t c =
-    no_operand c.args.s.now c.in_ok-m.rest.now c.args.self.depth (c.args.table.now.size + c.args.self.pending) (names_in c.args.table.now) c.in_ok-m.ensures c.at-in_default.ensures c.in_default.not-Before c.in_default.not-Truth c.in_default.not-Name c.in_default.not-Open
+    no_operand _ _ _ _ _ c.in_ok-m.ensures c.at-in_default.ensures c.in_default.not-Before c.in_default.not-Truth c.in_default.not-Name c.in_default.not-Open
