@@ -1,5 +1,5 @@
 -- Where the end of a text is found, nothing but blanks is left. Assumes nothing.
-use Rattle.std.proofs.Common.{◌≡◌, ℕ, true, false, leb, List, [], ◌∷◌, length, take, drop, Some, None, codes, Option, refl, subst, arith}
+use Rattle.std.proofs.Common.{◌≡◌, ℕ, true, false, leb, List, [], ◌∷◌, length, take, drop, Some, None, codes, Option, refl, subst}
 use Rattle.std.proofs.lemmas.Bool.{cond_both}
 use Rattle.rules.specs.Signs.{Lexed, sign, bad, lex, lex_at, try, starts, marked, named, name_of, worded, reserved_of, is_word, run, class, is_letter, skipped}
 use Rattle.rules.specs.Text.{is_end}
@@ -50,8 +50,7 @@ nothing_left : (s : List ℕ) {r : List ℕ} → lex_at s ≡ sign End r → len
 nothing_left [] e = refl
 nothing_left (b ∷ s) {r} e =
     let no : true ≡ false = subst Live e (live_at b s) in
-    let z : ◌≡◌ {A = ℕ} 0 1 = cc in
-    absurd (omega arith)
+    absurd cc
 
 pub at_end_lem : (s : List ℕ) {r : List ℕ} → lex s ≡ sign End r → length (skipped s) ≡ 0
 unfolding lex

@@ -7,9 +7,7 @@ use Rattle.rules.specs.declared.sign.Class.{Class}
 use Rattle.rules.specs.declared.sign.Class.TheVariants.{Letter, Digit, Blank, Mark, Other}
 use Rattle.rules.specs.Signs.{Lexed, sign, marked, run, class, in_word, skipped, is_blank, is_letter, bad, reserved_of, named, name_of, worded, lex_at, lex, try, starts}
 use Rattle.rules.specs.declared.sign.Sign.{Sign}
-use Rattle.rules.specs.declared.sign.Sign.TheVariants.{End, Between, Before, Open}
-use Rattle.rules.specs.declared.node.Binary.{Binary}
-use Rattle.rules.specs.declared.node.Unary.{Unary}
+use Rattle.rules.specs.declared.sign.Sign.TheVariants.{End}
 use Rattle.rules.specs.declared.sign.Why.TheVariants.{LongName}
 
 -- the test for a letter, as the code makes it
@@ -94,12 +92,3 @@ unfolding lex
 shorter s {r} {m} e live =
     let h : length r < length (skipped s) = subst (λ l. Takes l (length (skipped s))) e (takes_at (skipped s)) live in
     omega (arith, skipped_le s)
-
-pub shorter_between : (s : List ℕ) {r : List ℕ} {b : Binary} → lex s ≡ sign (Between b) r → length r < length s
-shorter_between s e = shorter s e (λ n. let z : ◌≡◌ {A = ℕ} 0 1 = cc in omega arith)
-
-pub shorter_before : (s : List ℕ) {r : List ℕ} {u : Unary} → lex s ≡ sign (Before u) r → length r < length s
-shorter_before s e = shorter s e (λ n. let z : ◌≡◌ {A = ℕ} 0 1 = cc in omega arith)
-
-pub shorter_open : (s : List ℕ) {r : List ℕ} → lex s ≡ sign Open r → length r < length s
-shorter_open s e = shorter s e (λ n. let z : ◌≡◌ {A = ℕ} 0 1 = cc in omega arith)

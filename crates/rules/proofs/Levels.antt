@@ -29,9 +29,6 @@ same_letters w = sym (λ i. take (w.count i) (w.letters i))
 
 pub name_parsed : {N : ℕ} {s r : List ℕ} {d p : ℕ} {a b c : Table} {x k : ℕ} {w : Name} → lex s ≡ sign (Sign.Name w) r → a.size + p < 64 → Numbered a b (letter_at N s w) k → Put b c (Node.Letter k) x → Parsed N 7 s r d p a c x
 name_parsed {N} {s} {r} {d} {p} {a} {b} {c} {x} {k} {w} e h m u =
-    let l = u.size in
-    let y = u.number in
-    let g = m.size in
     let same = same_letters u in
     let names : added (names_in a) w ≡ names_in c = sym (names_noted (table_letters a) (letter_at N s w)) ∙ ap names_of (sym m.keeps ∙ same) in
     let at : k ≡ place (names_in c) w = m.is ∙ ap (λ z. place (names_of z) w) same in
@@ -44,37 +41,29 @@ name_parsed {N} {s} {r} {d} {p} {a} {b} {c} {x} {k} {w} e h m u =
       wrote = u.nodes ∙ (λ i. take (m.size i) (m.nodes i) ++ Node.Letter (at i) ∷ []);
       notes = sym same ∙ m.keeps;
       root = omega arith;
-      shorter = shorter s e (λ no. let z : ◌≡◌ {A = ℕ} 0 1 = cc in omega arith);
+      shorter = shorter s e (λ no. cc);
     }
 
 pub truth_parsed : {N : ℕ} {s r : List ℕ} {d p : ℕ} {a b : Table} {x : ℕ} {v : Bool} → lex s ≡ sign (Truth v) r → a.size + p < 64 → Put a b (Node.Truth v) x → Parsed N 7 s r d p a b x
 truth_parsed {N} {s} {r} {d} {p} {a} {b} {x} {v} e h w =
-    let l = w.size in
-    let m = w.number in
     record {
       tree = truth v;
       reads = a_truth e;
       scans = renumber refl (omega arith) (ap names_of (same_letters w)) (onward (step_truth s r d (a.size + p) (names_in a) e h) here);
-      long = l;
+      long = w.size;
       fits = omega arith;
       wrote = w.nodes;
       notes = sym (same_letters w);
       root = omega arith;
-      shorter = shorter s e (λ no. let z : ◌≡◌ {A = ℕ} 0 1 = cc in omega arith);
+      shorter = shorter s e (λ no. cc);
     }
 
 pub before_parsed : {N : ℕ} {s m r : List ℕ} {d p : ℕ} {a b c : Table} {x y : ℕ} {u : Unary} → lex s ≡ sign (Before u) m → a.size + p < 64 → Parsed N 7 m r d (p + 1) a b y → Put b c (Node.Before u y) x → Parsed N 7 s r d p a c x
 before_parsed {N} {s} {m} {r} {d} {p} {a} {b} {c} {x} {y} {u} e h q w =
-    let l = w.size in
-    let i = w.number in
-    let ql = q.long in
-    let qr = q.root in
-    let qf = q.fits in
-    let qs = q.shorter in
     let same = same_letters w in
     let T = numbered (table_letters c) q.tree in
     let at : y ≡ a.size + size T - 1 = omega (arith, size_numbered (table_letters c) q.tree) in
-    let less : length m < length s = shorter s e (λ no. let z : ◌≡◌ {A = ℕ} 0 1 = cc in omega arith) in
+    let less : length m < length s = shorter s e (λ no. cc) in
     let inner : table_nodes b ≡ table_nodes a ++ flatten T a.size = q.wrote ∙ ap (λ z. table_nodes a ++ flatten (numbered z q.tree) a.size) same in
     record {
       tree = before u q.tree;
@@ -91,9 +80,8 @@ before_parsed {N} {s} {m} {r} {d} {p} {a} {b} {c} {x} {y} {u} e h q w =
 pub group_parsed : {N : ℕ} {s m e r : List ℕ} {d p : ℕ} {a b : Table} {x : ℕ} → lex s ≡ sign Open m → d < 16 → Parsed N 1 m e (d + 1) p a b x → lex e ≡ sign (closer (d + 1)) r → Parsed N 7 s r d p a b x
 group_parsed {N} {s} {m} {e} {r} {d} {p} {a} {b} {x} o h q k =
     let c : lex e ≡ sign Close r = k ∙ ap (λ n. sign n r) (cond-true (ltb 0 (d + 1)) Close End (lt-ltb 0 (d + 1) (omega arith))) in
-    let first : length m < length s = shorter s o (λ no. let z : ◌≡◌ {A = ℕ} 0 1 = cc in omega arith) in
-    let last : length r < length e = shorter e c (λ no. let z : ◌≡◌ {A = ℕ} 0 1 = cc in omega arith) in
-    let qs = q.shorter in
+    let first : length m < length s = shorter s o (λ no. cc) in
+    let last : length r < length e = shorter e c (λ no. cc) in
     record {
       tree = q.tree;
       reads = a_group o q.reads c;
@@ -151,16 +139,7 @@ no_rank End h = refl
 
 two_parsed : {N k j : ℕ} {s m n r : List ℕ} {d p : ℕ} {a b c e : Table} {x y z : ℕ} {o : Binary} (P : Parsed N k s m d p a b x) (Q : Parsed N j n r d (p + 1) b c y) → lex m ≡ sign (Between o) n → b.size + p < 64 → Reads N k s r (between o P.tree Q.tree) → Put c e (Node.Between o x y) z → Parsed N k s r d p a e z
 two_parsed {N} {k} {j} {s} {m} {n} {r} {d} {p} {a} {b} {c} {e} {x} {y} {z} {o} P Q l h reads w =
-    let wl = w.size in
-    let wn = w.number in
-    let pl = P.long in
-    let pr = P.root in
-    let ps = P.shorter in
-    let ql = Q.long in
-    let qr = Q.root in
-    let qf = Q.fits in
-    let qs = Q.shorter in
-    let less : length n < length m = shorter m l (λ no. let z : ◌≡◌ {A = ℕ} 0 1 = cc in omega arith) in
+    let less : length n < length m = shorter m l (λ no. cc) in
     let t = P.tree in
     let u = Q.tree in
     let same = same_letters w in
@@ -204,7 +183,7 @@ turn_left {o = o} S l i g h Q w =
     record {
       parsed = two_parsed S.parsed Q.0 l h (to_left i g S.parsed.reads l Q.0.reads) w;
       below = Q.1;
-      free = λ v _ j t. let no : true ≡ false = sym t ∙ one_side v o (j ∙ sym i) ∙ g in let z : ◌≡◌ {A = ℕ} 0 1 = cc in absurd (omega arith);
+      free = λ v _ j t. let no : true ≡ false = sym t ∙ one_side v o (j ∙ sym i) ∙ g in absurd cc;
     }
 
 -- a fault behind a left side and its sign

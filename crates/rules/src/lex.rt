@@ -87,6 +87,7 @@ fn word(s: &[u8]) -> Result<(Sign, &[u8]), Stop>
 }
 
 // The next sign, and what is behind it.
+#[tactic(auto, unfolding(crate::specs::Signs::lex))]
 pub(crate) fn next_sign(s: &[u8]) -> Result<(Sign, &[u8]), Stop>
     ensures { MatchResult result (λ p. lex s.now ≡ sign p.0 p.1.now) (λ f. lex s.now ≡ bad f) }
 {

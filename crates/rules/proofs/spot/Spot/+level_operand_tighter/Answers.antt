@@ -2,7 +2,7 @@ use Rattle.std.proofs.Common.{ℕ, suc, ◌+◌, ◌<◌, refl, sym, ◌∙◌, 
 use Rattle.rules.specs.Descent.{Parsed}
 use Rattle.rules.specs.Names.{names_in}
 use Rattle.rules.specs.Rest.{rank_at}
-use Rattle.rules.proofs.Fronts.{is_sign, shorter_between, shorter_before, shorter_open}
+use Rattle.rules.proofs.Fronts.{is_sign, shorter}
 use Rattle.rules.proofs.Levels.{behind_between, name_parsed, truth_parsed, before_parsed, group_parsed, start, rank_next, no_rank, Side, side_shorter, turn_on}
 use Rattle.rules.proofs.Steps.{later, at_once, at_bad, full, stopped_at, many_names, too_deep, no_operand, behind_before, behind_open}
 use Rattle.rules.proofs.spot.Spot.+level_operand_tighter.Goals as goal
@@ -36,7 +36,7 @@ pub level-level-requires : goal.level-level-requires
 level-level-requires t c =
     let so = c.loop-m.invariant c.args.table.now (start c.in_ok-left.ensures) in
     let e = is_sign c.in_ok-m.ensures c.in-Between.is in
-    omega (arith, shorter_between c.loop-m.rest.now e, so.parsed.shorter, c.in_ok-room.ensures)
+    omega (arith, shorter c.loop-m.rest.now e (λ no. cc), so.parsed.shorter, c.in_ok-room.ensures)
 
 pub level-returns-in_err-level : goal.level-returns-in_err-level
 level-returns-in_err-level t c =
@@ -48,7 +48,7 @@ pub level-tighter-requires-else-to_right : goal.level-tighter-requires-else-to_r
 level-tighter-requires-else-to_right t c =
     let so = c.loop-m.invariant c.args.table.now (start c.in_ok-left.ensures) in
     let e = is_sign c.in_ok-m.ensures c.in-Between.is in
-    omega (arith, shorter_between c.loop-m.rest.now e, so.parsed.shorter, c.in_ok-room.ensures)
+    omega (arith, shorter c.loop-m.rest.now e (λ no. cc), so.parsed.shorter, c.in_ok-room.ensures)
 
 pub level-returns-in_err-right : goal.level-returns-in_err-right
 level-returns-in_err-right t c =
@@ -69,7 +69,7 @@ side t c =
 pub level-loop-m-smaller : goal.level-loop-m-smaller
 level-loop-m-smaller t c =
     let e = is_sign c.in_ok-m.ensures c.in-Between.is in
-    omega (arith, shorter_between c.loop-m.rest.now e, side_shorter c.in-Between.b (side t c))
+    omega (arith, shorter c.loop-m.rest.now e (λ no. cc), side_shorter c.in-Between.b (side t c))
 
 pub level-loop-m-preserved : goal.level-loop-m-preserved
 level-loop-m-preserved t c = λ a s.
@@ -97,7 +97,7 @@ operand-returns-in_err-room-in-Before t c =
 
 pub operand-operand-requires : goal.operand-operand-requires
 operand-operand-requires t c =
-    omega (arith, shorter_before c.args.s.now (is_sign c.in_ok-m.ensures c.in-Before.is), c.in_ok-room-in-Before.ensures)
+    omega (arith, shorter c.args.s.now (is_sign c.in_ok-m.ensures c.in-Before.is) (λ no. cc), c.in_ok-room-in-Before.ensures)
 
 pub operand-returns-in_err-a-in-Before : goal.operand-returns-in_err-a-in-Before
 operand-returns-in_err-a-in-Before t c =
@@ -107,7 +107,7 @@ pub operand-returns-then-self-ge-DEPTH : goal.operand-returns-then-self-ge-DEPTH
 operand-returns-then-self-ge-DEPTH t c = too_deep _ _ _ _ _ (is_sign c.in_ok-m.ensures c.in-Open.is) (omega arith) c.at.ensures
 
 pub operand-level-requires : goal.operand-level-requires
-operand-level-requires t c = omega (arith, shorter_open c.args.s.now (is_sign c.in_ok-m.ensures c.in-Open.is))
+operand-level-requires t c = omega (arith, shorter c.args.s.now (is_sign c.in_ok-m.ensures c.in-Open.is) (λ no. cc))
 
 pub operand-returns-in_err-a-in-Open : goal.operand-returns-in_err-a-in-Open
 operand-returns-in_err-a-in-Open t c =
