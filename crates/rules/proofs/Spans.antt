@@ -16,8 +16,7 @@ use Rattle.rules.specs.declared.sign.Sign.{Sign}
 use Rattle.rules.specs.declared.sign.Sign.TheVariants.{Before, Between, Truth, Open, Close, End}
 use Rattle.rules.specs.declared.sign.Stop.{Stop}
 use Rattle.rules.specs.declared.sign.Why.{Why}
-use Rattle.rules.proofs.Ends.{at_end_lem}
-use Rattle.rules.proofs.Fronts.{shorter}
+use Rattle.rules.proofs.Fronts.{shorter, at_end_lem}
 
 -- ONE SIGN
 

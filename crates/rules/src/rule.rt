@@ -19,7 +19,7 @@ pub struct Letter {
 }
 
 // The first `size` nodes and the first `count` letters, each in the order of the text. Buffers with their lengths, since nothing here is on a heap.
-#[derive(Clone, Copy)]
+#[derive(Clone, Copy, Debug)]
 pub struct Table {
     pub(crate) nodes: [Node; NODES],
     pub(crate) size: usize,
@@ -30,7 +30,7 @@ pub struct Table {
 }
 
 // What is said of its size and count is the table's too: here readers of a rule find it.
-#[derive(Clone, Copy)]
+#[derive(Clone, Copy, Debug)]
 pub struct Rule {
     pub(crate) table: Table,
     ghost some: { 1 ≤ table.size },
