@@ -10,7 +10,7 @@ use crate::parse::parse;
 use crate::rule::Rule;
 
 // The most bytes of a text.
-const TEXT_BYTES: usize = 512;
+pub(crate) const TEXT_BYTES: usize = 512;
 
 impl Rule {
     // READS A TEXT into the rule, which stays as it was where the text is refused.
