@@ -1,129 +1,56 @@
--- The front of a text whose first bytes are known. Assumes nothing.
-use Rattle.std.proofs.Common.{◌≡◌, ℕ, suc, ◌+◌, ◌-◌, ◌<◌, ◌≤◌, true, false, cond, leb, List, [], ◌∷◌, ◌++◌, length, get_or, take, drop, set, replicate, Some, None, Option, sym, refl, ap, ◌∙◌, subst, append_assoc, add-one, arith, length-drop, length-take-le, drop-cons, take-suc}
-use lib.Seq.{set_at}
-use Rattle.std.proofs.lemmas.List.{take_rest, drop_all}
-use Rattle.std.proofs.lemmas.Bool.{cond-true, cond-false, cond_both, lt-leb}
+-- The sign at the front of a text. Assumes nothing.
+use Rattle.std.proofs.Common.{◌≡◌, ℕ, suc, ◌+◌, ◌<◌, ◌≤◌, true, false, leb, List, [], ◌∷◌, length, take, drop, Some, None, codes, Option, refl, ap, ◌∙◌, subst, arith, length-drop}
+use Rattle.std.proofs.lemmas.Bool.{cond-true, cond_both}
+use Rattle.rules.specs.Signs.{Lexed, sign, bad, lex, lex_at, try, starts, marked, named, name_of, worded, reserved_of, is_word, run, class, in_word, skipped, is_blank, is_letter}
+use Rattle.rules.specs.Text.{is_end}
 use Rattle.rules.specs.declared.sign.Class.{Class}
 use Rattle.rules.specs.declared.sign.Class.TheVariants.{Letter, Digit, Blank, Mark, Other}
-use Rattle.rules.specs.Signs.{Lexed, sign, marked, run, class, in_word, skipped, is_blank, is_letter, bad, reserved_of, named, name_of, worded, lex_at, lex, try, starts}
 use Rattle.rules.specs.declared.sign.Sign.{Sign}
-use Rattle.rules.specs.declared.sign.Sign.TheVariants.{End, Between, Before, Open}
-use Rattle.rules.specs.declared.node.Binary.{Binary}
-use Rattle.rules.specs.declared.node.Unary.{Unary}
+use Rattle.rules.specs.declared.sign.Sign.TheVariants.{End}
 use Rattle.rules.specs.declared.sign.Why.TheVariants.{LongName}
-
-pub front1 : (s : List ℕ) (x : ℕ) → 1 ≤ length s → get_or s 0 0 ≡ x → s ≡ x ∷ drop 1 s
-front1 [] x h e = absurd (omega arith)
-front1 (a ∷ s) x h e = ap (λ y. y ∷ s) e
-
-pub front2 : (s : List ℕ) (x y : ℕ) → 2 ≤ length s → get_or s 0 0 ≡ x → get_or s 1 0 ≡ y → s ≡ x ∷ y ∷ drop 2 s
-front2 [] x y h e f = absurd (omega arith)
-front2 (a ∷ []) x y h e f = absurd (omega arith)
-front2 (a ∷ b ∷ s) x y h e f = λ i. e i ∷ f i ∷ s
-
-pub front3 : (s : List ℕ) (x y z : ℕ) → 3 ≤ length s → get_or s 0 0 ≡ x → get_or s 1 0 ≡ y → get_or s 2 0 ≡ z → s ≡ x ∷ y ∷ z ∷ drop 3 s
-front3 [] x y z h e f g = absurd (omega arith)
-front3 (a ∷ []) x y z h e f g = absurd (omega arith)
-front3 (a ∷ b ∷ []) x y z h e f g = absurd (omega arith)
-front3 (a ∷ b ∷ c ∷ s) x y z h e f g = λ i. e i ∷ f i ∷ g i ∷ s
-
--- a pattern's rest, as the code has it
-pub rest_sign : (n : ℕ) (s : List ℕ) (m : Sign) → sign m (drop n s) ≡ sign m (take (length s - n) (drop n s))
-rest_sign n s m = ap (sign m) (sym (take_rest s n))
-
-run_at : (s : List ℕ) (n : ℕ) → n < length s → run (drop n s) ≡ cond (in_word (class (get_or s n 0))) (suc (run (drop (suc n) s))) 0
-run_at s n h = ap run (drop-cons s n 0 h)
-
-pub run_more : (s : List ℕ) (n : ℕ) → n < length s → in_word (class (get_or s n 0)) ≡ true → n + run (drop n s) ≡ n + 1 + run (drop (n + 1) s)
-run_more s n h e =
-    let b = run_at s n h ∙ cond-true (in_word (class (get_or s n 0))) (suc (run (drop (suc n) s))) 0 e in
-    rw add-one (omega (arith, b))
-
-pub run_stop : (s : List ℕ) (n : ℕ) → n < length s → in_word (class (get_or s n 0)) ≡ false → run (drop n s) ≡ 0
-run_stop s n h e = run_at s n h ∙ cond-false (in_word (class (get_or s n 0))) (suc (run (drop (suc n) s))) 0 e
-
-pub run_end : (s : List ℕ) (n : ℕ) → length s ≤ n → run (drop n s) ≡ 0
-run_end s n h = ap run (drop_all n s h)
-
-pub not_in : (x : Class) → (x ≡ Letter → ⊥) → (x ≡ Digit → ⊥) → in_word x ≡ false
-not_in Letter a b = absurd (a refl)
-not_in Digit a b = absurd (b refl)
-not_in Blank a b = refl
-not_in Mark a b = refl
-not_in Other a b = refl
-
-pub skip_more : (s : List ℕ) → 1 ≤ length s → Blank ≡ class (get_or s 0 0) → skipped (take (length s - 1) (drop 1 s)) ≡ skipped s
-skip_more [] h e = absurd (omega arith)
-skip_more (b ∷ s) h e =
-    ap skipped (take_rest (b ∷ s) 1) ∙ sym (cond-true (is_blank (class b)) (skipped s) (b ∷ s) (sym (ap is_blank e)))
-
-pub skip_end : (s : List ℕ) → length s < 1 → s ≡ skipped s
-skip_end [] h = refl
-skip_end (b ∷ s) h = absurd (omega arith)
-
-pub run_le : (s : List ℕ) → run s ≤ length s
-run_le [] = omega arith
-run_le (b ∷ s) =
-    let h = run_le s in
-    cond_both (in_word (class b)) (suc (run s)) 0 (λ n. n ≤ suc (length s)) (λ _. omega arith) (λ _. omega arith)
-
-pub too_long : (s w : List ℕ) (n : ℕ) (o : Option Sign) → n ≡ run s → w ≡ take n s → o ≡ reserved_of w → o ≡ None → 12 < n → worded s ≡ bad (record { why = LongName; left = length s })
-too_long s w n o a b c d h =
-    let none : reserved_of (take (run s) s) ≡ None = ap (λ k. reserved_of (take k s)) (sym a) ∙ ap reserved_of (sym b) ∙ sym c ∙ d in
-    ap (λ x. named x s) none ∙ cond-false (leb (run s) 12) _ _ (lt-leb (run s) 12 (omega arith))
-
-pub lex_end : (s t : List ℕ) → t ≡ skipped s → length t < 1 → lex s ≡ sign End t
-unfolding lex
-lex_end s [] e h = ap lex_at (sym e)
-lex_end s (b ∷ t) e h = absurd (omega arith)
-
-pub lex_word : (s t : List ℕ) → t ≡ skipped s → 1 ≤ length t → is_letter (class (get_or t 0 0)) ≡ true → lex s ≡ worded t
-unfolding lex
-lex_word s [] e h i = absurd (omega arith)
-lex_word s (b ∷ t) e h i = ap lex_at (sym e) ∙ cond-true (is_letter (class b)) (worded (b ∷ t)) (marked (b ∷ t)) i
-
-pub lex_mark : (s t : List ℕ) → t ≡ skipped s → 1 ≤ length t → is_letter (class (get_or t 0 0)) ≡ false → lex s ≡ marked t
-unfolding lex
-lex_mark s [] e h i = absurd (omega arith)
-lex_mark s (b ∷ t) e h i = ap lex_at (sym e) ∙ cond-false (is_letter (class b)) (worded (b ∷ t)) (marked (b ∷ t)) i
-
-pub no_letter_lem : (x : Class) → (x ≡ Letter → ⊥) → is_letter x ≡ false
-no_letter_lem Letter a = absurd (a refl)
-no_letter_lem Digit a = refl
-no_letter_lem Blank a = refl
-no_letter_lem Mark a = refl
-no_letter_lem Other a = refl
 
 -- the sign at the front, as an arm names it
 pub is_sign : {l : Lexed} {r : List ℕ} {m n : Sign} → l ≡ sign m r → m ≡ n → l ≡ sign n r
 is_sign {r = r} e i = e ∙ ap (λ x. sign x r) i
 
--- A sign other than the end takes at least one byte.
-abbrev Takes : Lexed → ℕ → Type 0
-Takes (sign m r) n = (m ≡ End → ⊥) → length r < n
-Takes (bad f) n = Unit {0}
+-- A sign is the end of the text, or leaves fewer than n bytes.
 
-takes_try : (x : ℕ) (ps : List ℕ) (m : Sign) (b : ℕ) (s : List ℕ) (e : Lexed) → Takes e (suc (length s)) → Takes (try (x ∷ ps) m (b ∷ s) e) (suc (length s))
-takes_try x ps m b s e h =
-    cond_both (starts (x ∷ ps) (b ∷ s)) (sign m (drop (length ps) s)) e (λ l. Takes l (suc (length s))) (λ _ _. omega (arith, length-drop (length ps) s)) (λ _. h)
+abbrev Live : Lexed → ℕ → Type 0
+Live (sign m r) n = (is_end m ≡ false) × (length r < n)
+Live (bad f) n = Unit {0}
 
-takes_mark : (b : ℕ) (s : List ℕ) → Takes (marked (b ∷ s)) (suc (length s))
-takes_mark b s =
-    takes_try 33 [] _ b s _
-    (takes_try 40 [] _ b s _
-    (takes_try 41 [] _ b s _
-    (takes_try 91 (93 ∷ []) _ b s _
-    (takes_try 60 (62 ∷ []) _ b s _
-    (takes_try 60 (45 ∷ 62 ∷ []) _ b s _
-    (takes_try 45 (62 ∷ []) _ b s _
-    (takes_try 43 (43 ∷ []) _ b s _
-    (takes_try 47 (92 ∷ []) _ b s _
-    (takes_try 92 (47 ∷ []) _ b s _ tt)))))))))
+live_try : (x : ℕ) (ps : List ℕ) (m : Sign) (b : ℕ) (s : List ℕ) (e : Lexed) → is_end m ≡ false → Live e (suc (length s)) → Live (try (x ∷ ps) m (b ∷ s) e) (suc (length s))
+live_try x ps m b s e i h =
+    cond_both (starts (x ∷ ps) (b ∷ s)) (sign m (drop (length ps) s)) e (λ l. Live l (suc (length s))) (λ _. (i, omega (arith, length-drop (length ps) s))) (λ _. h)
 
-takes_named : (o : Option Sign) (s : List ℕ) (n : ℕ) → length (drop (run s) s) < n → Takes (named o s) n
-takes_named (Some m) s n h = λ _. h
-takes_named None s n h =
-    cond_both (leb (run s) 12) (sign (Sign.Name (name_of (run s) s)) (drop (run s) s)) (bad (record { why = LongName; left = length s })) (λ l. Takes l n) (λ _ _. h) (λ _. tt)
+live_mark : (b : ℕ) (s : List ℕ) → Live (marked (b ∷ s)) (suc (length s))
+live_mark b s =
+    live_try 33 [] _ b s _ refl
+    (live_try 40 [] _ b s _ refl
+    (live_try 41 [] _ b s _ refl
+    (live_try 91 (93 ∷ []) _ b s _ refl
+    (live_try 60 (62 ∷ []) _ b s _ refl
+    (live_try 60 (45 ∷ 62 ∷ []) _ b s _ refl
+    (live_try 45 (62 ∷ []) _ b s _ refl
+    (live_try 43 (43 ∷ []) _ b s _ refl
+    (live_try 47 (92 ∷ []) _ b s _ refl
+    (live_try 92 (47 ∷ []) _ b s _ refl tt)))))))))
+
+abbrev LiveWord : Option Sign → Type 0
+LiveWord (Some m) = is_end m ≡ false
+LiveWord None = Unit {0}
+
+live_reserved : (w : List ℕ) → LiveWord (reserved_of w)
+live_reserved w =
+    cond_both (is_word (codes "true") w) _ _ LiveWord (λ _. refl)
+    (λ _. cond_both (is_word (codes "false") w) _ _ LiveWord (λ _. refl)
+    (λ _. cond_both (is_word (codes "o") w) _ _ LiveWord (λ _. refl)
+    (λ _. cond_both (is_word (codes "U") w) _ _ LiveWord (λ _. refl) (λ _. tt))))
+
+live_named : (o : Option Sign) (s : List ℕ) (n : ℕ) → LiveWord o → length (drop (run s) s) < n → Live (named o s) n
+live_named (Some m) s n w h = (w, h)
+live_named None s n w h =
+    cond_both (leb (run s) 12) (sign (Sign.Name (name_of (run s) s)) (drop (run s) s)) (bad (record { why = LongName; left = length s })) (λ l. Live l n) (λ _. (refl, h)) (λ _. tt)
 
 in_letter : (x : Class) → is_letter x ≡ true → in_word x ≡ true
 in_letter Letter e = refl
@@ -132,17 +59,23 @@ in_letter Blank e = e
 in_letter Mark e = e
 in_letter Other e = e
 
-takes_word : (b : ℕ) (s : List ℕ) → is_letter (class b) ≡ true → Takes (worded (b ∷ s)) (suc (length s))
-takes_word b s e =
-    let r : run (b ∷ s) ≡ suc (run s) = cond-true (in_word (class b)) (suc (run s)) 0 (in_letter (class b) e) in
-    takes_named (reserved_of (take (run (b ∷ s)) (b ∷ s))) (b ∷ s) (suc (length s)) (omega (arith, r, length-drop (run (b ∷ s)) (b ∷ s)))
+live_word : (b : ℕ) (s : List ℕ) → is_letter (class b) ≡ true → Live (worded (b ∷ s)) (suc (length s))
+live_word b s e =
+    let r : run (b ∷ s) ≡ 1 + run s = cond-true (in_word (class b)) (1 + run s) 0 (in_letter (class b) e) in
+    let w = take (run (b ∷ s)) (b ∷ s) in
+    live_named (reserved_of w) (b ∷ s) (suc (length s)) (live_reserved w) (omega (arith, r, length-drop (run (b ∷ s)) (b ∷ s)))
 
-takes_at : (s : List ℕ) → Takes (lex_at s) (length s)
-takes_at [] = λ no. absurd (no refl)
-takes_at (b ∷ s) =
-    cond_both (is_letter (class b)) (worded (b ∷ s)) (marked (b ∷ s)) (λ l. Takes l (suc (length s))) (takes_word b s) (λ _. takes_mark b s)
+live_at : (b : ℕ) (s : List ℕ) → Live (lex_at (b ∷ s)) (suc (length s))
+live_at b s =
+    cond_both (is_letter (class b)) (worded (b ∷ s)) (marked (b ∷ s)) (λ l. Live l (suc (length s))) (live_word b s) (λ _. live_mark b s)
 
-pub skipped_le : (s : List ℕ) → length (skipped s) ≤ length s
+-- A SIGN TAKES A BYTE
+
+shorter_at : (s : List ℕ) {r : List ℕ} {m : Sign} → lex_at s ≡ sign m r → (m ≡ End → ⊥) → length r < length s
+shorter_at [] {r} {m} e live = let end : m ≡ End = cc in absurd (live end)
+shorter_at (b ∷ s) e live = (subst (λ l. Live l (suc (length s))) e (live_at b s)).1
+
+skipped_le : (s : List ℕ) → length (skipped s) ≤ length s
 skipped_le [] = omega arith
 skipped_le (b ∷ s) =
     let h = skipped_le s in
@@ -150,23 +83,16 @@ skipped_le (b ∷ s) =
 
 pub shorter : (s : List ℕ) {r : List ℕ} {m : Sign} → lex s ≡ sign m r → (m ≡ End → ⊥) → length r < length s
 unfolding lex
-shorter s {r} {m} e live =
-    let h : length r < length (skipped s) = subst (λ l. Takes l (length (skipped s))) e (takes_at (skipped s)) live in
-    omega (arith, skipped_le s)
+shorter s e live = omega (arith, shorter_at (skipped s) e live, skipped_le s)
 
-pub shorter_between : (s : List ℕ) {r : List ℕ} {b : Binary} → lex s ≡ sign (Between b) r → length r < length s
-shorter_between s e = shorter s e (λ n. let z : ◌≡◌ {A = ℕ} 0 1 = cc in omega arith)
+-- WHERE THE END IS FOUND, nothing but blanks is left
 
-pub shorter_before : (s : List ℕ) {r : List ℕ} {u : Unary} → lex s ≡ sign (Before u) r → length r < length s
-shorter_before s e = shorter s e (λ n. let z : ◌≡◌ {A = ℕ} 0 1 = cc in omega arith)
+nothing_left : (s : List ℕ) {r : List ℕ} → lex_at s ≡ sign End r → length s ≡ 0
+nothing_left [] e = refl
+nothing_left (b ∷ s) e =
+    let no : true ≡ false = (subst (λ l. Live l (suc (length s))) e (live_at b s)).0 in
+    absurd cc
 
-pub shorter_open : (s : List ℕ) {r : List ℕ} → lex s ≡ sign Open r → length r < length s
-shorter_open s e = shorter s e (λ n. let z : ◌≡◌ {A = ℕ} 0 1 = cc in omega arith)
-
-pub copy_more : (s b : List ℕ) (i : ℕ) → i < 12 → i < length s → b ≡ take i s ++ drop i (replicate 12 0) → set b i (get_or s i 0) ≡ take (i + 1) s ++ drop (i + 1) (replicate 12 0)
-copy_more s b i h k e =
-    let z : List ℕ = replicate 12 0 in
-    let split : drop i z ≡ get_or z i 0 ∷ drop (suc i) z = drop-cons z i 0 h in
-    let put : set (take i s ++ get_or z i 0 ∷ drop (suc i) z) i (get_or s i 0) ≡ take i s ++ get_or s i 0 ∷ drop (suc i) z = set_at (take i s) (get_or z i 0) (drop (suc i) z) (get_or s i 0) i (length-take-le i s (omega arith)) in
-    let more : take (suc i) s ++ drop (suc i) z ≡ take i s ++ get_or s i 0 ∷ drop (suc i) z = ap (λ l. l ++ drop (suc i) z) (take-suc s i 0 k) ∙ append_assoc (take i s) (get_or s i 0 ∷ []) (drop (suc i) z) in
-    rw add-one (ap (λ l. set l i (get_or s i 0)) (e ∙ ap (λ l. take i s ++ l) split) ∙ put ∙ sym more)
+pub at_end_lem : (s : List ℕ) {r : List ℕ} → lex s ≡ sign End r → length (skipped s) ≡ 0
+unfolding lex
+at_end_lem s e = nothing_left (skipped s) e

@@ -1,11 +1,12 @@
 -- What the descent has read, from operands up to levels. Assumes nothing.
-use Rattle.std.proofs.Common.{◌≡◌, ℕ, suc, ◌+◌, ◌-◌, ◌<◌, ◌≤◌, Bool, true, false, cond, eqb, ◌⊎◌, List, [], ◌∷◌, ◌++◌, length, take, sym, refl, ap, ◌∙◌, subst, inl, inr, append_assoc, add-zero, arith}
+use Rattle.std.proofs.Common.{◌≡◌, ℕ, suc, ◌+◌, ◌-◌, ◌<◌, Bool, true, false, cond, eqb, ltb, ◌⊎◌, List, [], ◌∷◌, ◌++◌, length, take, sym, refl, ap, ◌∙◌, subst, inl, inr, append_assoc, arith}
+use Rattle.std.proofs.lemmas.Bool.{cond-true, lt-ltb}
 use Rattle.rules.specs.Signs.{sign, lex}
 use Rattle.rules.specs.Names.{place, added, names_of, names_in, table_letters, table_nodes, letter_at, gather, numbered, Numbered}
 use Rattle.rules.specs.Descent.{Put, Parsed}
 use Rattle.rules.specs.Grammar.{rank_of, rightward}
-use Rattle.rules.specs.Rest.{step, halt, here, onward, Halts, NextStep, sign_rank, lex_rank, rank_at, Reads, a_name, a_truth, a_before, a_group, up, to_left, to_right}
-use Rattle.rules.specs.Scan.{want, have}
+use Rattle.rules.specs.Rest.{halt, here, onward, Halts, NextStep, sign_rank, lex_rank, closer, rank_at, Reads, a_name, a_truth, a_before, a_group, up, to_left, to_right}
+use Rattle.rules.specs.Scan.{want}
 use Rattle.rules.specs.Tree.{leaf, truth, before, between, size, flatten}
 use Rattle.rules.specs.declared.name.Name.{Name}
 use Rattle.rules.specs.declared.node.Unary.{Unary}
@@ -28,11 +29,6 @@ same_letters w = sym (λ i. take (w.count i) (w.letters i))
 
 pub name_parsed : {N : ℕ} {s r : List ℕ} {d p : ℕ} {a b c : Table} {x k : ℕ} {w : Name} → lex s ≡ sign (Sign.Name w) r → a.size + p < 64 → Numbered a b (letter_at N s w) k → Put b c (Node.Letter k) x → Parsed N 7 s r d p a c x
 name_parsed {N} {s} {r} {d} {p} {a} {b} {c} {x} {k} {w} e h m u =
-    let l = u.size in
-    let y = u.number in
-    let g = m.size in
-    let j = u.count in
-    let f = m.few in
     let same = same_letters u in
     let names : added (names_in a) w ≡ names_in c = sym (names_noted (table_letters a) (letter_at N s w)) ∙ ap names_of (sym m.keeps ∙ same) in
     let at : k ≡ place (names_in c) w = m.is ∙ ap (λ z. place (names_of z) w) same in
@@ -44,43 +40,30 @@ name_parsed {N} {s} {r} {d} {p} {a} {b} {c} {x} {k} {w} e h m u =
       fits = omega arith;
       wrote = u.nodes ∙ (λ i. take (m.size i) (m.nodes i) ++ Node.Letter (at i) ∷ []);
       notes = sym same ∙ m.keeps;
-      few = omega arith;
       root = omega arith;
-      shorter = shorter s e (λ no. let z : ◌≡◌ {A = ℕ} 0 1 = cc in omega arith);
+      shorter = shorter s e (λ no. cc);
     }
 
-pub truth_parsed : {N : ℕ} {s r : List ℕ} {d p : ℕ} {a b : Table} {x : ℕ} {v : Bool} → lex s ≡ sign (Truth v) r → a.size + p < 64 → a.count ≤ 8 → Put a b (Node.Truth v) x → Parsed N 7 s r d p a b x
-truth_parsed {N} {s} {r} {d} {p} {a} {b} {x} {v} e h g w =
-    let l = w.size in
-    let m = w.number in
-    let j = w.count in
+pub truth_parsed : {N : ℕ} {s r : List ℕ} {d p : ℕ} {a b : Table} {x : ℕ} {v : Bool} → lex s ≡ sign (Truth v) r → a.size + p < 64 → Put a b (Node.Truth v) x → Parsed N 7 s r d p a b x
+truth_parsed {N} {s} {r} {d} {p} {a} {b} {x} {v} e h w =
     record {
       tree = truth v;
       reads = a_truth e;
       scans = renumber refl (omega arith) (ap names_of (same_letters w)) (onward (step_truth s r d (a.size + p) (names_in a) e h) here);
-      long = l;
+      long = w.size;
       fits = omega arith;
       wrote = w.nodes;
       notes = sym (same_letters w);
-      few = omega arith;
       root = omega arith;
-      shorter = shorter s e (λ no. let z : ◌≡◌ {A = ℕ} 0 1 = cc in omega arith);
+      shorter = shorter s e (λ no. cc);
     }
 
 pub before_parsed : {N : ℕ} {s m r : List ℕ} {d p : ℕ} {a b c : Table} {x y : ℕ} {u : Unary} → lex s ≡ sign (Before u) m → a.size + p < 64 → Parsed N 7 m r d (p + 1) a b y → Put b c (Node.Before u y) x → Parsed N 7 s r d p a c x
 before_parsed {N} {s} {m} {r} {d} {p} {a} {b} {c} {x} {y} {u} e h q w =
-    let l = w.size in
-    let i = w.number in
-    let j = w.count in
-    let f = q.few in
-    let ql = q.long in
-    let qr = q.root in
-    let qf = q.fits in
-    let qs = q.shorter in
     let same = same_letters w in
     let T = numbered (table_letters c) q.tree in
     let at : y ≡ a.size + size T - 1 = omega (arith, size_numbered (table_letters c) q.tree) in
-    let less : length m < length s = shorter s e (λ no. let z : ◌≡◌ {A = ℕ} 0 1 = cc in omega arith) in
+    let less : length m < length s = shorter s e (λ no. cc) in
     let inner : table_nodes b ≡ table_nodes a ++ flatten T a.size = q.wrote ∙ ap (λ z. table_nodes a ++ flatten (numbered z q.tree) a.size) same in
     record {
       tree = before u q.tree;
@@ -90,16 +73,15 @@ before_parsed {N} {s} {m} {r} {d} {p} {a} {b} {c} {x} {y} {u} e h q w =
       fits = omega arith;
       wrote = w.nodes ∙ ap (λ k. k ++ Node.Before u y ∷ []) inner ∙ append_assoc (table_nodes a) (flatten T a.size) (Node.Before u y ∷ []) ∙ ap (λ k. table_nodes a ++ (flatten T a.size ++ Node.Before u k ∷ [])) at;
       notes = sym same ∙ q.notes;
-      few = omega arith;
       root = omega arith;
       shorter = omega arith;
     }
 
-pub group_parsed : {N : ℕ} {s m e r : List ℕ} {d p : ℕ} {a b : Table} {x : ℕ} → lex s ≡ sign Open m → d < 16 → Parsed N 1 m e (d + 1) p a b x → lex e ≡ sign Close r → Parsed N 7 s r d p a b x
-group_parsed {N} {s} {m} {e} {r} {d} {p} {a} {b} {x} o h q c =
-    let first : length m < length s = shorter s o (λ no. let z : ◌≡◌ {A = ℕ} 0 1 = cc in omega arith) in
-    let last : length r < length e = shorter e c (λ no. let z : ◌≡◌ {A = ℕ} 0 1 = cc in omega arith) in
-    let qs = q.shorter in
+pub group_parsed : {N : ℕ} {s m e r : List ℕ} {d p : ℕ} {a b : Table} {x : ℕ} → lex s ≡ sign Open m → d < 16 → Parsed N 1 m e (d + 1) p a b x → lex e ≡ sign (closer (d + 1)) r → Parsed N 7 s r d p a b x
+group_parsed {N} {s} {m} {e} {r} {d} {p} {a} {b} {x} o h q k =
+    let c : lex e ≡ sign Close r = k ∙ ap (λ n. sign n r) (cond-true (ltb 0 (d + 1)) Close End (lt-ltb 0 (d + 1) (omega arith))) in
+    let first : length m < length s = shorter s o (λ no. cc) in
+    let last : length r < length e = shorter e c (λ no. cc) in
     record {
       tree = q.tree;
       reads = a_group o q.reads c;
@@ -108,7 +90,6 @@ group_parsed {N} {s} {m} {e} {r} {d} {p} {a} {b} {x} o h q c =
       fits = q.fits;
       wrote = q.wrote;
       notes = q.notes;
-      few = q.few;
       root = q.root;
       shorter = omega arith;
     }
@@ -125,7 +106,7 @@ pub start : {N k : ℕ} {s r : List ℕ} {d p : ℕ} {a b : Table} {x : ℕ} →
 start h =
     let q = h.0 in
     record {
-      parsed = record { tree = q.tree; reads = up q.reads; scans = q.scans; long = q.long; fits = q.fits; wrote = q.wrote; notes = q.notes; few = q.few; root = q.root; shorter = q.shorter };
+      parsed = record { tree = q.tree; reads = up q.reads; scans = q.scans; long = q.long; fits = q.fits; wrote = q.wrote; notes = q.notes; root = q.root; shorter = q.shorter };
       below = h.1;
       free = λ _ _ _ _. q.reads;
     }
@@ -158,18 +139,7 @@ no_rank End h = refl
 
 two_parsed : {N k j : ℕ} {s m n r : List ℕ} {d p : ℕ} {a b c e : Table} {x y z : ℕ} {o : Binary} (P : Parsed N k s m d p a b x) (Q : Parsed N j n r d (p + 1) b c y) → lex m ≡ sign (Between o) n → b.size + p < 64 → Reads N k s r (between o P.tree Q.tree) → Put c e (Node.Between o x y) z → Parsed N k s r d p a e z
 two_parsed {N} {k} {j} {s} {m} {n} {r} {d} {p} {a} {b} {c} {e} {x} {y} {z} {o} P Q l h reads w =
-    let wl = w.size in
-    let wn = w.number in
-    let wj = w.count in
-    let qn = Q.few in
-    let pl = P.long in
-    let pr = P.root in
-    let ps = P.shorter in
-    let ql = Q.long in
-    let qr = Q.root in
-    let qf = Q.fits in
-    let qs = Q.shorter in
-    let less : length n < length m = shorter m l (λ no. let z : ◌≡◌ {A = ℕ} 0 1 = cc in omega arith) in
+    let less : length n < length m = shorter m l (λ no. cc) in
     let t = P.tree in
     let u = Q.tree in
     let same = same_letters w in
@@ -195,7 +165,6 @@ two_parsed {N} {k} {j} {s} {m} {n} {r} {d} {p} {a} {b} {c} {e} {x} {y} {z} {o} P
       fits = omega arith;
       wrote = w.nodes ∙ ap (λ k. k ++ V) all ∙ append_assoc (A ++ F) G V ∙ append_assoc A F (G ++ V) ∙ (λ i. A ++ (F ++ (G ++ Node.Between o (atx i) (aty i) ∷ [])));
       notes = sym same ∙ Q.notes ∙ ap (λ k. gather k u) P.notes;
-      few = omega arith;
       root = omega arith;
       shorter = omega arith;
     }
@@ -214,7 +183,7 @@ turn_left {o = o} S l i g h Q w =
     record {
       parsed = two_parsed S.parsed Q.0 l h (to_left i g S.parsed.reads l Q.0.reads) w;
       below = Q.1;
-      free = λ v _ j t. let no : true ≡ false = sym t ∙ one_side v o (j ∙ sym i) ∙ g in let z : ◌≡◌ {A = ℕ} 0 1 = cc in absurd (omega arith);
+      free = λ v _ j t. let no : true ≡ false = sym t ∙ one_side v o (j ∙ sym i) ∙ g in absurd cc;
     }
 
 -- a fault behind a left side and its sign
@@ -237,8 +206,7 @@ turn_on S l i h (inl q) w = turn_right S l i q.0 h q.1 w
 turn_on S l i h (inr q) w = turn_left S l i q.0 h q.1 w
 
 -- a fault behind the whole rule
-pub behind_rule : {N : ℕ} {s r : List ℕ} {a b : Table} {x : ℕ} {f : Stop} → a.size ≡ 0 → a.count ≡ 0 → Parsed N 1 s r 0 0 a b x → NextStep r 0 b.size (halt f) → Halts s (want 0 0 []) f
-behind_rule {s = s} {r = r} {a = a} {b = b} {f = f} z k P e =
+pub behind_rule : {N : ℕ} {s r : List ℕ} {a b : Table} {x : ℕ} {f : Stop} → a.size ≡ 0 → a.count ≡ 0 → Parsed N 1 s r 0 0 a b x → NextStep r 0 (halt f) → Halts s (want 0 0 []) f
+behind_rule {s = s} {a = a} {b = b} {f = f} z k P e =
     let start : want 0 (a.size + 0) (names_in a) ≡ want 0 0 [] = λ i. want 0 (z i + 0) (names_of (take (k i) a.letters)) in
-    let stops : step r (have 0 (b.size + 0) (names_in b)) ≡ halt f = ap (λ n. step r (have 0 n (names_in b))) (add-zero b.size) ∙ e (names_in b) in
-    subst (λ σ. Halts s σ f) start (later P.scans (at_once stops))
+    subst (λ σ. Halts s σ f) start (later P.scans (at_once (e (b.size + 0) (names_in b))))

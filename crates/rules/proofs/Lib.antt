@@ -1,6 +1,5 @@
 pub mod Accepted
 pub mod ClassTable
-pub mod Ends
 pub mod First
 pub mod Fitting
 pub mod Flat

@@ -1,8 +1,10 @@
 -- The numbers of letters by first appearance. Assumes nothing.
-use Rattle.std.proofs.Common.{◌≡◌, ℕ, suc, ◌+◌, ◌<◌, ◌≤◌, true, false, cond, ltb, List, [], ◌∷◌, ◌++◌, length, get_or, take, drop, set, sym, refl, ap, ◌∙◌, subst, ⊎_elim, add-one, arith, drop-cons}
-use Rattle.std.proofs.lemmas.List.{drop_all, append-nil, append_assoc, map-append, length-map, length-take-le, take_more_set, length-append, length_push}
+use Rattle.std.proofs.Common.{◌≡◌, ℕ, suc, ◌+◌, ◌<◌, ◌≤◌, true, false, cond, ltb, List, [], ◌∷◌, ◌++◌, length, take, set, Some, None, Option, MatchOption, sym, refl, ap, ◌∙◌, subst, ⊎_elim, arith}
+use Rattle.std.specs.List.{position_or_len}
+use Rattle.std.proofs.lemmas.List.{append-nil, append_assoc, map-append, length-map, length-take-le, take_more_set, length-append, length_push}
+use Rattle.std.proofs.lemmas.List.Recursion.{is_position_or_len}
 use Rattle.std.proofs.lemmas.Bool.{cond-true, cond-false, cond_both, lt-ltb, le-ltb, ltb-true, ltb-false, cases_Bool}
-use Rattle.rules.specs.Names.{spelled, same_name, names_of, place, added, noted, gather, numbered, table_letters, names_in}
+use Rattle.rules.specs.Names.{spelled, same_name, names_of, number_in, place, added, noted, gather, numbered, table_letters, names_in}
 use Rattle.rules.specs.Tree.{Tree, leaf, truth, before, between, size}
 use Rattle.rules.specs.declared.name.Name.{Name}
 use Rattle.rules.specs.declared.rule.Letter.{Letter}
@@ -11,20 +13,20 @@ use Rattle.rules.proofs.SameName.{same_self}
 
 -- A PLACE, as a search from the front finds it
 
-module _ (l : List Letter) (w : Name) (d : Letter) (i : ℕ) (h : i < length l) where
-  place_at : place (names_of (drop i l)) w ≡ cond (same_name (spelled (get_or l i d).name) (spelled w)) 0 (suc (place (names_of (drop (suc i) l)) w))
-  place_at = ap (λ k. place (names_of k) w) (drop-cons l i d h)
+place_position : (l : List Letter) (w : Name) → place (names_of l) w ≡ position_or_len (λ x. same_name (spelled x.name) (spelled w)) l
+place_position l w =
+    is_position_or_len (λ k. place (names_of k) w) (λ x. same_name (spelled x.name) (spelled w)) refl
+    (λ x xs. let e : suc (place (names_of xs) w) ≡ 1 + place (names_of xs) w = omega arith in ap (cond (same_name (spelled x.name) (spelled w)) 0) e)
+    l
 
-  pub place_more : false ≡ same_name (spelled (get_or l i d).name) (spelled w) → i + place (names_of (drop i l)) w ≡ i + 1 + place (names_of (drop (i + 1) l)) w
-  place_more n =
-      let b = place_at ∙ cond-false (same_name (spelled (get_or l i d).name) (spelled w)) 0 (suc (place (names_of (drop (suc i) l)) w)) (sym n) in
-      rw add-one (omega (arith, b))
-
-  pub place_here : true ≡ same_name (spelled (get_or l i d).name) (spelled w) → place (names_of (drop i l)) w ≡ 0
-  place_here n = place_at ∙ cond-true (same_name (spelled (get_or l i d).name) (spelled w)) 0 (suc (place (names_of (drop (suc i) l)) w)) (sym n)
-
-pub place_end : (l : List Letter) (w : Name) (i : ℕ) → length l ≤ i → place (names_of (drop i l)) w ≡ 0
-place_end l w i h = ap (λ k. place (names_of k) w) (drop_all i l h)
+pub found : (l : List Letter) (w : Name) (o : Option ℕ) → o ≡ number_in l w → MatchOption o (length l ≤ place (names_of l) w) (λ i. (i < length l) × (i ≡ place (names_of l) w))
+found l w o e =
+    let p = place_position l w in
+    let n = position_or_len (λ (x : Letter). same_name (spelled x.name) (spelled w)) l in
+    rw e
+    (cond_both (ltb n (length l)) (Some n) None (λ z. MatchOption z (length l ≤ place (names_of l) w) (λ i. (i < length l) × (i ≡ place (names_of l) w)))
+    (λ h. (ltb-true n (length l) h, sym p))
+    (λ h. omega (arith, ltb-false n (length l) h)))
 
 pub place_le : (l : List Letter) (w : Name) → place (names_of l) w ≤ length l
 place_le [] w = omega arith

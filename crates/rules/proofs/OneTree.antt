@@ -138,8 +138,7 @@ data After (k : ℕ) : Tree Letter → List Placed → List Placed → Tree Lett
 sides : (o w : Binary) {k : ℕ} → rank_of o ≡ k → rank_of w ≡ k → rightward o ≡ false → rightward w ≡ true → ⊥
 sides o w i j g h =
     let no : true ≡ false = sym h ∙ one_side w o (j ∙ sym i) ∙ g in
-    let z : ◌≡◌ {A = ℕ} 0 1 = cc in
-    omega arith
+    cc
 
 onto : {k b : ℕ} {a t u : Tree Letter} {m r e f : List Placed} {o : Binary} → After k a m r t → rank_of o ≡ k → rightward o ≡ false → r ≡ placed (Between o) b ∷ e → Parses (suc k) e f u → After k a m f (between o t u)
 onto stop i g l y = left i g l y stop

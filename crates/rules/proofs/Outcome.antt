@@ -1,5 +1,7 @@
 -- The outcome of reading a text: its first fault, or the whole rule. Assumes nothing.
-use Rattle.std.proofs.Common.{◌≡◌, ℕ, suc, ◌-◌, ◌<◌, ◌≤◌, ltb, List, [], length, Some, None, Ok, Result, sym, ap, ◌∙◌, arith}
+use Rattle.std.proofs.Common.{◌≡◌, ℕ, suc, ◌-◌, ◌<◌, ◌≤◌, ltb, List, [], length, Some, None, Ok, Err, Result, MatchResult, sym, ap, ◌∙◌, arith}
+use Rattle.std.specs.Result.{IsErrAnd}
+use Rattle.std.proofs.lemmas.Result.{err_from_is_err_and}
 use Rattle.std.proofs.lemmas.List.{length-take-le}
 use Rattle.std.proofs.lemmas.Bool.{cond-true, cond-false, lt-ltb, le-ltb}
 use Rattle.rules.specs.Descent.{Built}
@@ -61,3 +63,10 @@ built_whole rule w room = record { tree = w.tree; says = says w; letters = w.let
 -- every text within the limits is read
 pub reads_all : {s : List ℕ} {r : Result (Unit {0}) Fault} → r ≡ answer (first_fault s) tt → Within s → r ≡ Ok tt
 reads_all {s} {r} e w = e ∙ ap (λ o. answer o tt) (accepted w)
+
+-- what is known of a result, where the error is made into another
+pub mapped : {A B E : Type 0} (P : A → Type 0) (Q : B → Type 0) (S : B → E → Type 0) {R : B → E → Type 0} (r : Result A B) (q : Result A E) → MatchResult r P Q → MatchResult r (λ x. q ≡ Ok x) (λ e. IsErrAnd q (R e)) → ((e : B) (f : E) → R e f → S e f) → MatchResult q P (λ f. (e : B) × (Q e × S e f))
+mapped P Q S (Ok x) q p h each = rw h p
+mapped P Q S (Err e) q p h each =
+    let k = err_from_is_err_and q h in
+    rw k.1 (e, (p, each e k.0 k.2))

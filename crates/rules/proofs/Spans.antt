@@ -16,8 +16,7 @@ use Rattle.rules.specs.declared.sign.Sign.{Sign}
 use Rattle.rules.specs.declared.sign.Sign.TheVariants.{Before, Between, Truth, Open, Close, End}
 use Rattle.rules.specs.declared.sign.Stop.{Stop}
 use Rattle.rules.specs.declared.sign.Why.{Why}
-use Rattle.rules.proofs.Ends.{at_end_lem}
-use Rattle.rules.proofs.Fronts.{shorter}
+use Rattle.rules.proofs.Fronts.{shorter, at_end_lem}
 
 -- ONE SIGN
 
@@ -67,13 +66,13 @@ less_either : (n : ℕ) (b : Bool) (x y : Out) → Less n x → Less n y → Les
 less_either n b x y h k = cond_both b x y (Less n) (λ _. h) (λ _. k)
 
 less_turn : (s : List ℕ) (σ : State) (l : Lexed) → lex s ≡ l → Less (length s) (turn l s σ)
-less_turn s σ (sign (Before u) r) e = less_either (length s) σ.operand _ _ (less_either (length s) (ltb σ.made 64) _ _ (shorter s e (λ no. let z : ◌≡◌ {A = ℕ} 0 1 = cc in omega arith)) tt) tt
-less_turn s σ (sign (Between b) r) e = less_either (length s) σ.operand _ _ tt (less_either (length s) (ltb σ.made 64) _ _ (shorter s e (λ no. let z : ◌≡◌ {A = ℕ} 0 1 = cc in omega arith)) tt)
-less_turn s σ (sign (Truth v) r) e = less_either (length s) σ.operand _ _ (less_either (length s) (ltb σ.made 64) _ _ (shorter s e (λ no. let z : ◌≡◌ {A = ℕ} 0 1 = cc in omega arith)) tt) tt
+less_turn s σ (sign (Before u) r) e = less_either (length s) σ.operand _ _ (less_either (length s) (ltb σ.made 64) _ _ (shorter s e (λ no. cc)) tt) tt
+less_turn s σ (sign (Between b) r) e = less_either (length s) σ.operand _ _ tt (less_either (length s) (ltb σ.made 64) _ _ (shorter s e (λ no. cc)) tt)
+less_turn s σ (sign (Truth v) r) e = less_either (length s) σ.operand _ _ (less_either (length s) (ltb σ.made 64) _ _ (shorter s e (λ no. cc)) tt) tt
 less_turn s σ (sign (Sign.Name w) r) e =
-    less_either (length s) σ.operand _ _ (less_either (length s) (ltb σ.made 64) _ _ (less_either (length s) (ltb (place σ.known w) 8) _ _ (shorter s e (λ no. let z : ◌≡◌ {A = ℕ} 0 1 = cc in omega arith)) tt) tt) tt
-less_turn s σ (sign Open r) e = less_either (length s) σ.operand _ _ (less_either (length s) (ltb σ.depth 16) _ _ (shorter s e (λ no. let z : ◌≡◌ {A = ℕ} 0 1 = cc in omega arith)) tt) tt
-less_turn s σ (sign Close r) e = less_either (length s) σ.operand _ _ tt (less_either (length s) (ltb 0 σ.depth) _ _ (shorter s e (λ no. let z : ◌≡◌ {A = ℕ} 0 1 = cc in omega arith)) tt)
+    less_either (length s) σ.operand _ _ (less_either (length s) (ltb σ.made 64) _ _ (less_either (length s) (ltb (place σ.known w) 8) _ _ (shorter s e (λ no. cc)) tt) tt) tt
+less_turn s σ (sign Open r) e = less_either (length s) σ.operand _ _ (less_either (length s) (ltb σ.depth 16) _ _ (shorter s e (λ no. cc)) tt) tt
+less_turn s σ (sign Close r) e = less_either (length s) σ.operand _ _ tt (less_either (length s) (ltb 0 σ.depth) _ _ (shorter s e (λ no. cc)) tt)
 less_turn s σ (sign End r) e = less_either (length s) σ.operand _ _ tt (less_either (length s) (ltb 0 σ.depth) _ _ tt tt)
 less_turn s σ (bad f) e = tt
 
@@ -123,7 +122,7 @@ span_found n f s r m e h = ap (λ l. found l n s (signs_from f n)) e ∙ cond-fa
 one_then : (n : ℕ) (s r : List ℕ) (m : Sign) → lex s ≡ sign m r → is_end m ≡ false → (f : ℕ) → length s < f → (g : ℕ) × (length r < g) × (signs_from f n s ≡ next (placed m (byte_at n s)) (signs_from g n r))
 one_then n s r m e h zero l = absurd (omega arith)
 one_then n s r m e h (suc f) l =
-    let less : length r < length s = shorter s e (λ end. let no : true ≡ false = sym (ap is_end end) ∙ h in let z : ◌≡◌ {A = ℕ} 0 1 = cc in omega arith) in
+    let less : length r < length s = shorter s e (λ end. let no : true ≡ false = sym (ap is_end end) ∙ h in cc) in
     (f, omega arith, span_found n f s r m e h)
 
 span_one : (n : ℕ) (s r : List ℕ) (m : Sign) → lex s ≡ sign m r → is_end m ≡ false → Spans n s (placed m (byte_at n s) ∷ []) r

@@ -1,10 +1,12 @@
 -- The steps of the scan, sign by sign. Assumes nothing.
-use Rattle.std.proofs.Common.{◌≡◌, ℕ, ◌+◌, ◌-◌, ◌<◌, ◌≤◌, Bool, ltb, List, sym, refl, ap, ◌∙◌, subst, arith}
+use Rattle.std.proofs.Common.{◌≡◌, ℕ, ◌+◌, ◌-◌, ◌<◌, ◌≤◌, Bool, cond, ltb, List, Result, MatchResult, sym, refl, ap, ◌∙◌, subst, arith}
+use Rattle.std.specs.Result.{IsErrAnd}
+use Rattle.std.proofs.lemmas.Result.{err_from_is_err_and}
 use mathlib.Core.Path.{subst₃}
 use Rattle.std.proofs.lemmas.Bool.{cond-true, cond-false, lt-ltb, le-ltb}
 use Rattle.rules.specs.Signs.{sign, bad, lex, stop_at}
 use Rattle.rules.specs.Names.{place, added}
-use Rattle.rules.specs.Rest.{turn, step, go, halt, Reach, here, onward, Halts}
+use Rattle.rules.specs.Rest.{Out, turn, step, go, halt, Reach, here, onward, Halts}
 use Rattle.rules.specs.Scan.{State, want, have}
 use Rattle.rules.specs.declared.name.Name.{Name}
 use Rattle.rules.specs.declared.node.Unary.{Unary}
@@ -26,6 +28,16 @@ at_once {s} {σ} e = record { at = s; in_state = σ; leads = here; stops = e }
 
 pub at_bad : {s : List ℕ} {f : Stop} (σ : State) → lex s ≡ bad f → Halts s σ f
 at_bad {s} σ e = at_once (ap (λ x. turn x s σ) e)
+
+-- what stops a callee stops its caller
+pub stopped_at : {A : Type 0} (P : A → Type 0) {s : List ℕ} {σ : State} {f : Stop} (r : Result A Stop) → IsErrAnd r (λ g. g ≡ f) → Halts s σ f → MatchResult r P (λ g. Halts s σ g)
+stopped_at P r h x =
+    let p = err_from_is_err_and r h in
+    rw (p.1, p.2) x
+
+-- a sign that makes a node, where there is no room for one
+pub full : {s r : List ℕ} {n : ℕ} {m : Sign} {σ : State} (on : Out) {f : Stop} → lex s ≡ sign m r → turn (sign m r) s σ ≡ cond (ltb n 64) on (halt (stop_at ManyNodes s)) → (64 ≤ n) × (f ≡ stop_at ManyNodes s) → Halts s σ f
+full {s} {n = n} {σ = σ} on e is h = at_once (ap (λ x. turn x s σ) e ∙ is ∙ cond-false (ltb n 64) _ _ (le-ltb n 64 h.0) ∙ ap halt (sym h.1))
 
 -- a reach in the numbers that a proof has
 pub renumber : {s r : List ℕ} {d n n' k k' : ℕ} {l m m' : List Name} → n ≡ n' → k ≡ k' → m ≡ m' → Reach s (want d n l) r (have d k m) → Reach s (want d n' l) r (have d k' m')
@@ -53,19 +65,7 @@ module _ (s r : List ℕ) (d n : ℕ) (l : List Name) where
       let back : d + 1 - 1 ≡ d = omega arith in
       ap (λ x. turn x s (have (d + 1) n l)) e ∙ cond-true (ltb 0 (d + 1)) _ _ (lt-ltb 0 (d + 1) (omega arith)) ∙ ap (λ x. go r (have x n l)) back
 
-  -- the faults of the limits
-  pub full_name : {w : Name} {f : Stop} → lex s ≡ sign (Sign.Name w) r → (64 ≤ n) × (f ≡ stop_at ManyNodes s) → Halts s (want d n l) f
-  full_name e h = at_once (ap (λ x. turn x s (want d n l)) e ∙ cond-false (ltb n 64) _ _ (le-ltb n 64 h.0) ∙ ap halt (sym h.1))
-
-  pub full_truth : {v : Bool} {f : Stop} → lex s ≡ sign (Truth v) r → (64 ≤ n) × (f ≡ stop_at ManyNodes s) → Halts s (want d n l) f
-  full_truth e h = at_once (ap (λ x. turn x s (want d n l)) e ∙ cond-false (ltb n 64) _ _ (le-ltb n 64 h.0) ∙ ap halt (sym h.1))
-
-  pub full_before : {u : Unary} {f : Stop} → lex s ≡ sign (Before u) r → (64 ≤ n) × (f ≡ stop_at ManyNodes s) → Halts s (want d n l) f
-  full_before e h = at_once (ap (λ x. turn x s (want d n l)) e ∙ cond-false (ltb n 64) _ _ (le-ltb n 64 h.0) ∙ ap halt (sym h.1))
-
-  pub full_between : {b : Binary} {f : Stop} → lex s ≡ sign (Between b) r → (64 ≤ n) × (f ≡ stop_at ManyNodes s) → Halts s (have d n l) f
-  full_between e h = at_once (ap (λ x. turn x s (have d n l)) e ∙ cond-false (ltb n 64) _ _ (le-ltb n 64 h.0) ∙ ap halt (sym h.1))
-
+  -- the faults of the other limits
   pub many_names : {w : Name} {f : Stop} → lex s ≡ sign (Sign.Name w) r → n < 64 → (8 ≤ place l w) × (f ≡ stop_at ManyLetters s) → Halts s (want d n l) f
   many_names {w} e h k =
       at_once (ap (λ x. turn x s (want d n l)) e ∙ cond-true (ltb n 64) _ _ (lt-ltb n 64 h) ∙ cond-false (ltb (place l w) 8) _ _ (le-ltb (place l w) 8 k.0) ∙ ap halt (sym k.1))

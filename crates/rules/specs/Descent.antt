@@ -25,7 +25,6 @@ pub record Parsed (n k : ℕ) (s r : List ℕ) (d p : ℕ) (a b : Table) (x : �
   pub fits : b.size + p ≤ 64
   pub wrote : table_nodes b ≡ table_nodes a ++ flatten (numbered (table_letters b) tree) a.size
   pub notes : table_letters b ≡ gather (table_letters a) tree
-  pub few : b.count ≤ 8
   pub root : x + 1 ≡ b.size
   pub shorter : length r < length s
 
@@ -37,7 +36,5 @@ pub record Built (s : List ℕ) (b : Table) : Type 0 where
   pub scans : Reach s (want 0 0 []) rest (have 0 b.size (names_in b))
   pub ends : Ended rest
   pub size_is : b.size ≡ size tree
-  pub fits : b.size ≤ 64
-  pub few : b.count ≤ 8
   pub nodes_are : table_nodes b ≡ flatten (numbered (table_letters b) tree) 0
   pub letters_are : table_letters b ≡ gather [] tree

@@ -1,5 +1,6 @@
 -- What a name spells, when two names are the same, and the letters of a rule by first appearance. Assumes nothing.
-use Rattle.std.specs.Prelude.{◌≡◌, ℕ, suc, ◌-◌, ◌<◌, ◌≤◌, Bool, cond, List, [], ◌∷◌, ◌++◌, map, length, take, nat_lt}
+use Rattle.std.specs.Prelude.{◌≡◌, ℕ, suc, ◌-◌, ◌<◌, Bool, cond, List, [], ◌∷◌, ◌++◌, map, length, take, nat_lt, Option}
+use Rattle.std.specs.List.{position}
 use Rattle.std.specs.Str.{bytes_eq}
 use Rattle.rules.specs.Signs.{skipped}
 use Rattle.rules.specs.Tree.{Tree, leaf, truth, before, between}
@@ -22,6 +23,10 @@ names_of l = map (λ (x : Letter). x.name) l
 abbrev pub place : List Name → Name → ℕ
 place [] w = 0
 place (x ∷ xs) w = cond (same_name (spelled x) (spelled w)) 0 (suc (place xs w))
+
+-- the number of a name among some letters, if it has one
+abbrev pub number_in : List Letter → Name → Option ℕ
+number_in l w = position (λ (x : Letter). same_name (spelled x.name) (spelled w)) l
 
 -- the names with one more, if it is new
 abbrev pub added : List Name → Name → List Name
@@ -63,6 +68,5 @@ pub record Numbered (a b : Table) (x : Letter) (i : ℕ) : Type 0 where
   pub is : i ≡ place (names_in b) x.name
   pub room : place (names_in a) x.name < 8
   pub keeps : table_letters b ≡ noted (table_letters a) x
-  pub few : b.count ≤ 8
   pub nodes : b.nodes ≡ a.nodes
   pub size : b.size ≡ a.size

@@ -1,5 +1,5 @@
 -- The scan and the grammar over the bytes that are left of a text, as the functions that read it meet them. Assumes nothing.
-use Rattle.std.specs.Prelude.{◌≡◌, ℕ, suc, Bool, true, false, List}
+use Rattle.std.specs.Prelude.{◌≡◌, ℕ, suc, Bool, true, false, cond, List, nat_lt}
 use Rattle.rules.specs.Signs.{Lexed, sign, bad, lex, stop_at}
 use Rattle.rules.specs.Grammar.{rank_of, rightward}
 use Rattle.rules.specs.Names.{letter_at}
@@ -40,9 +40,13 @@ pub record Halts (s : List ℕ) (σ : State) (f : Stop) : Type 0 where
   pub leads : Reach s σ at in_state
   pub stops : step at in_state ≡ halt f
 
--- behind an operand, inside d parentheses and with n nodes made: the next step, whatever names are known
-abbrev pub NextStep : List ℕ → ℕ → ℕ → Out → Type 0
-NextStep s d n o = (l : List Name) → step s (have d n l) ≡ o
+-- behind an operand, inside d parentheses: the next step, whatever nodes are made and names are known
+abbrev pub NextStep : List ℕ → ℕ → Out → Type 0
+NextStep s d o = (n : ℕ) (l : List Name) → step s (have d n l) ≡ o
+
+-- what closes a part inside d parentheses
+abbrev pub closer : ℕ → Sign
+closer d = cond (nat_lt 0 d) Close End
 
 -- THE GRAMMAR
 

@@ -1,5 +1,6 @@
 -- The signs of a text, over its bytes, and which bytes are a name. Assumes nothing.
-use Rattle.std.specs.Prelude.{ℕ, suc, Bool, true, false, cond, not, ◌&&◌, ◌||◌, List, [], ◌∷◌, ◌++◌, length, take, drop, replicate, is_some, Some, None, codes, Option, ◌==◌, nat_le}
+use Rattle.std.specs.Prelude.{ℕ, Bool, true, false, cond, not, ◌&&◌, ◌||◌, List, [], ◌∷◌, ◌++◌, length, take, drop, replicate, is_some, Some, None, codes, Option, ◌==◌, nat_le}
+use Rattle.std.specs.List.{prefix_len, list_all}
 use Rattle.rules.specs.declared.name.Name.{Name}
 use Rattle.rules.specs.declared.node.Unary.TheVariants.{Not, Always, Eventually, Next}
 use Rattle.rules.specs.declared.node.Binary.TheVariants.{Until, And, Xor, Or, Implies, Iff}
@@ -70,8 +71,7 @@ skipped (b ∷ s) = cond (is_blank (class b)) (skipped s) (b ∷ s)
 
 -- how many bytes at the front are letters, digits or underscores
 abbrev pub run : List ℕ → ℕ
-run [] = 0
-run (b ∷ s) = cond (in_word (class b)) (suc (run s)) 0
+run s = prefix_len (λ b. in_word (class b)) s
 
 -- what stands at the front of a text: a sign and what is behind it, or why there is none
 pub data Lexed : Type 0 where
@@ -144,8 +144,7 @@ from_letter [] = false
 from_letter (b ∷ s) = is_letter (class b)
 
 abbrev pub all_in_word : List ℕ → Bool
-all_in_word [] = true
-all_in_word (b ∷ s) = in_word (class b) && all_in_word s
+all_in_word s = list_all (λ b. in_word (class b)) s
 
 -- THE BYTES ARE A NAME: a letter first, all letters, digits or underscores, at most twelve, not reserved
 abbrev pub is_name : List ℕ → Bool

@@ -1,30 +1,41 @@
 // A rule as it is made, and what can be asked of it.
-ghost use Rattle.std.specs.Prelude.{◌≡◌, true, [], ◌∷◌, length, take};
+ghost use Rattle.std.specs.Prelude.{◌≡◌, ◌<◌, true, [], ◌∷◌, length};
+ghost use Rattle.rules.specs.Descent.{Put};
 ghost use Rattle.rules.specs.Rules.{node_count, letter_count, nodes_of, letters_of, tree_of_rule};
 ghost use Rattle.rules.specs.Tree.{flatten};
 ghost use Rattle.rules.specs.declared.node.Node.TheVariants.{Truth};
 
 use crate::name::Name;
 use crate::node::Node;
-use crate::rule::{Letter, Rule, Table};
+use crate::rule::{LETTERS, Letter, NODES, Rule, Table};
 
 impl Table {
-    // The table of the rule `true`.
-    pub(crate) fn verum() -> Table
-        ensures size { result.size ≡ 1 }
+    // A table of no nodes and no letters.
+    pub(crate) fn empty() -> Table
+        ensures size { result.size ≡ 0 }
         ensures count { result.count ≡ 0 }
-        ensures nodes { take 1 result.nodes ≡ Truth true ∷ [] }
     {
         let letter = Letter {
             name: Name::none(),
             at: 0,
         };
         Table {
-            nodes: [Node::Truth(true); 64],
-            size: 1,
-            letters: [letter; 8],
+            nodes: [Node::Truth(true); NODES],
+            size: 0,
+            letters: [letter; LETTERS],
             count: 0,
         }
+    }
+
+    // Writes a node behind the others, and says its number.
+    pub(crate) fn put(&mut self, n: Node) -> u8
+        requires { self.old.size < 64 }
+        ensures { Put self.old self.new n result }
+    {
+        let at = self.size;
+        self.nodes[at] = n;
+        self.size += 1;
+        at as u8
     }
 }
 
@@ -34,9 +45,9 @@ impl Rule {
         ensures nodes { nodes_of result ≡ Truth true ∷ [] }
         ensures letters { letters_of result ≡ [] }
     {
-        Rule {
-            table: Table::verum(),
-        }
+        let mut table = Table::empty();
+        table.put(Node::Truth(true));
+        Rule { table }
     }
 
     // The nodes, operands first; the last is the whole rule.
@@ -45,7 +56,7 @@ impl Rule {
         ensures long { length result.now ≡ node_count self.now }
         ensures whole { result.now ≡ flatten (tree_of_rule self.now) 0 }
     {
-        &self.table.nodes[0..self.table.size]
+        &self.table.nodes[..self.table.size]
     }
 
     // The letters, by first appearance.
@@ -53,6 +64,6 @@ impl Rule {
         ensures same { result.now ≡ letters_of self.now }
         ensures long { length result.now ≡ letter_count self.now }
     {
-        &self.table.letters[0..self.table.count]
+        &self.table.letters[..self.table.count]
     }
 }

@@ -1,8 +1,9 @@
-// A fault's number, layer and place, as they are printed.
+// A fault's number, layer and place, as they are printed: the table of REFUSALS, case by case.
 ghost use Rattle.std.specs.Prelude.{◌≡◌};
 ghost use Rattle.rules.specs.Faults.{number_of, layer_of, layer_number, place_of};
 
 use crate::fault::{Fault, Layer};
+use crate::read::TEXT_BYTES;
 
 impl Fault {
     pub fn number(self) -> u8
@@ -64,7 +65,7 @@ impl Fault {
         ensures { result ≡ place_of self }
     {
         match self {
-            Fault::LongText => 512,
+            Fault::LongText => TEXT_BYTES,
             Fault::NoSign(at)
             | Fault::Misplaced(at)
             | Fault::LongName(at)

@@ -1,30 +1,29 @@
 // The letters of a rule, each once, in the order of the text.
 ghost use Rattle.std.specs.Prelude.{◌≡◌, ◌≤◌, MatchResult};
 ghost use Rattle.rules.specs.Signs.{stop_at};
-ghost use Rattle.rules.specs.Names.{place, names_of, names_in, letter_at, Numbered};
+ghost use Rattle.rules.specs.Names.{spelled, same_name, number_in, place, names_in, letter_at, Numbered};
 ghost use Rattle.rules.specs.declared.sign.Why.TheVariants.{ManyLetters};
 
-use crate::lex::{skip, stop_at};
+use crate::lex::skip;
 use crate::name::Name;
 use crate::names::same_name;
-use crate::rule::{Letter, Table};
+use crate::rule::{LETTERS, Letter, Table};
 use crate::sign::{Stop, Why};
 
-// The most letters of a rule.
-const LETTERS: usize = 8;
-
-// The number of a name, or how many letters there are if it is new.
-fn find(letters: &[Letter], name: &Name) -> usize
-    ensures { result ≡ place (names_of letters.now) name.now }
-{
-    let mut i = 0;
-    while i < letters.len() {
-        if same_name(letters[i].name.text(), name.text()) {
-            return i;
-        }
-        i += 1;
+impl Letter {
+    // Whether its name is this one.
+    fn is(&self, name: &Name) -> bool
+        ensures { result ≡ same_name (spelled self.now.name) (spelled name.now) }
+    {
+        same_name(self.name.text(), name.text())
     }
-    i
+}
+
+// The number of a name, if it has one.
+fn find(letters: &[Letter], name: &Name) -> Option<usize>
+    ensures { result ≡ number_in letters.now name.now }
+{
+    letters.iter().position(|x| x.is(name))
 }
 
 // The name as a letter, where `s` is left of a text of `total` bytes.
@@ -37,20 +36,20 @@ fn letter_at(total: usize, s: &[u8], name: Name) -> Letter
     }
 }
 
-// The number of the name that stands at `s`, which is noted with its place if it is new.
-pub(crate) fn number(total: usize, s: &[u8], name: Name, table: &mut Table) -> Result<u8, Stop>
-    requires { table.old.count ≤ 8 }
-    ensures { MatchResult result (λ i. Numbered table.old table.new (letter_at total s.now name) i) (λ f. (8 ≤ place (names_in table.old) name) × (f ≡ stop_at ManyLetters s.now)) }
-{
-    let count = table.count;
-    let i = find(&table.letters[0..count], &name);
-    if i < count {
-        return Ok(i as u8);
+impl Table {
+    // The number of the name that stands at `s`, which is noted with its place if it is new.
+    pub(crate) fn number(&mut self, total: usize, s: &[u8], name: Name) -> Result<u8, Stop>
+        ensures { MatchResult result (λ i. Numbered self.old self.new (letter_at total s.now name) i) (λ f. (8 ≤ place (names_in self.old) name) × (f ≡ stop_at ManyLetters s.now)) }
+    {
+        let count = self.count;
+        if let Some(i) = find(&self.letters[..count], &name) {
+            return Ok(i as u8);
+        }
+        if count == LETTERS {
+            return Err(Stop::at(Why::ManyLetters, s));
+        }
+        self.letters[count] = letter_at(total, s, name);
+        self.count += 1;
+        Ok(count as u8)
     }
-    if count == LETTERS {
-        return Err(stop_at(Why::ManyLetters, s));
-    }
-    table.letters[count] = letter_at(total, s, name);
-    table.count = count + 1;
-    Ok(count as u8)
 }

@@ -15,6 +15,8 @@ mod read;
 mod rule;
 mod sign;
 mod spell;
+mod spot;
+mod stop;
 
 pub use fault::{Fault, Layer};
 pub use name::Name;

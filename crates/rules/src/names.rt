@@ -2,7 +2,7 @@
 ghost use Rattle.std.specs.Prelude.{◌≡◌, []};
 ghost use Rattle.rules.specs.Names.{spelled, same_name};
 
-use crate::name::Name;
+use crate::name::{NAME_BYTES, Name};
 
 // Whether two spellings are one name. Nothing else compares names.
 pub fn same_name(a: &[u8], b: &[u8]) -> bool
@@ -15,7 +15,7 @@ impl Name {
     pub fn text(&self) -> &[u8]
         ensures { result.now ≡ spelled self.now }
     {
-        &self.bytes[0..self.len.min(12) as usize]
+        &self.bytes[..usize::from(self.len).min(NAME_BYTES)]
     }
 
     // A name of no bytes, to fill a table with.
@@ -23,7 +23,7 @@ impl Name {
         ensures { spelled result ≡ [] }
     {
         Name {
-            bytes: [0; 12],
+            bytes: [0; NAME_BYTES],
             len: 0,
         }
     }

@@ -1,7 +1,7 @@
 // The nodes of a rule.
 
 // What stands before one operand.
-#[derive(Clone, Copy)]
+#[derive(Clone, Copy, PartialEq, Eq, Debug)]
 pub enum Unary {
     Not,
     Always,
@@ -10,7 +10,7 @@ pub enum Unary {
 }
 
 // What stands between two operands.
-#[derive(Clone, Copy)]
+#[derive(Clone, Copy, PartialEq, Eq, Debug)]
 pub enum Binary {
     Until,
     And,
@@ -21,7 +21,7 @@ pub enum Binary {
 }
 
 // One node: a letter by its number, a constant, or an operator over nodes that stand before it. Numbers count from 0.
-#[derive(Clone, Copy)]
+#[derive(Clone, Copy, PartialEq, Eq, Debug)]
 pub enum Node {
     Letter(u8),
     Truth(bool),

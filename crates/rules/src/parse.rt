@@ -2,197 +2,155 @@
 ghost use Rattle.std.specs.Prelude.{◌≡◌, suc, ◌+◌, ◌<◌, ◌≤◌, [], MatchResult};
 ghost use Rattle.rules.specs.Signs.{stop_at, lex, sign};
 ghost use Rattle.rules.specs.Scan.{want};
-ghost use Rattle.rules.specs.Rest.{Halts, NextStep, halt, rank_at, Ended};
+ghost use Rattle.rules.specs.Rest.{Halts, NextStep, halt, closer, rank_at};
 ghost use Rattle.rules.specs.Grammar.{rank_of, rightward};
 ghost use Rattle.rules.specs.Names.{names_in};
-ghost use Rattle.rules.specs.Descent.{Put, Parsed, Built};
+ghost use Rattle.rules.specs.Descent.{Parsed, Built};
 ghost use Rattle.rules.specs.declared.sign.Why.TheVariants.{ManyNodes};
-ghost use Rattle.rules.specs.declared.sign.Sign.TheVariants.{Close};
 
-use crate::letters::number;
-use crate::lex::{next_sign, stop_at};
+use crate::lex::next_sign;
 use crate::node::{Binary, Node};
-use crate::rule::Table;
+use crate::rule::{NODES, Table};
 use crate::sign::{Sign, Stop, Why};
-
-// The most nodes of a rule.
-const NODES: usize = 64;
+use crate::spot::Spot;
 
 // The most parentheses that are open at once.
 const DEPTH: usize = 16;
 
-// The level of what binds least, and of what binds most.
+// The level of what binds least, and of what binds most. Levels are numbers, since the descent counts through them.
 const LOOSEST: u8 = 1;
 
 const TIGHTEST: u8 = 6;
 
-fn rank(b: Binary) -> u8
-    ensures { result ≡ rank_of b }
-{
-    match b {
-        Binary::Until => 6,
-        Binary::And => 5,
-        Binary::Xor => 4,
-        Binary::Or => 3,
-        Binary::Implies => 2,
-        Binary::Iff => 1,
+impl Binary {
+    // How tightly it binds.
+    fn rank(self) -> u8
+        ensures { result ≡ rank_of self }
+    {
+        match self {
+            Binary::Until => 6,
+            Binary::And => 5,
+            Binary::Xor => 4,
+            Binary::Or => 3,
+            Binary::Implies => 2,
+            Binary::Iff => 1,
+        }
+    }
+
+    // Whether it groups to the right.
+    fn to_right(self) -> bool
+        ensures { result ≡ rightward self }
+    {
+        matches!(self, Binary::Until | Binary::Implies)
     }
 }
 
-fn to_right(b: Binary) -> bool
-    ensures { result ≡ rightward b }
-{
-    match b {
-        Binary::Until | Binary::Implies => true,
-        _ => false,
-    }
-}
-
-// Writes a node behind the others, and says its number.
-fn put(table: &mut Table, n: Node) -> u8
-    requires { table.old.size < 64 }
-    ensures { Put table.old table.new n result }
-{
-    let at = table.size;
-    table.nodes[at] = n;
-    table.size = at + 1;
-    at as u8
-}
-
-// A sign at `s` that makes a node, where `count` are made or to come.
-fn room(s: &[u8], count: usize) -> Result<(), Stop>
-    ensures { MatchResult result (λ _. count < 64) (λ f. (64 ≤ count) × (f ≡ stop_at ManyNodes s.now)) }
-{
-    if count < NODES {
-        Ok(())
-    } else {
-        Err(stop_at(Why::ManyNodes, s))
-    }
-}
-
-// The closing parenthesis, where no sign that stands between operands comes next.
-fn closed(s: &[u8], depth: usize, count: usize) -> Result<&[u8], Stop>
-    requires within { 0 < depth }
-    requires behind { rank_at s.now < 1 }
-    ensures { MatchResult result (λ p. lex s.now ≡ sign Close p.now) (λ f. NextStep s.now depth count (halt f)) }
-{
-    let (m, rest) = next_sign(s)?;
-    match m {
-        Sign::Close => Ok(rest),
-        _ => Err(stop_at(Why::Misplaced, s)),
-    }
-}
-
-// The end of the text, where no sign that stands between operands comes next.
-fn ended(s: &[u8], count: usize) -> Result<(), Stop>
+// What closes a part at `s`, a parenthesis or else the end of the text, where no sign that stands between operands comes next. Answers what is behind.
+fn closed(s: &[u8], depth: usize) -> Result<&[u8], Stop>
     requires { rank_at s.now < 1 }
-    ensures { MatchResult result (λ _. Ended s.now) (λ f. NextStep s.now 0 count (halt f)) }
-{
-    let (m, _) = next_sign(s)?;
-    match m {
-        Sign::End => Ok(()),
-        _ => Err(stop_at(Why::Misplaced, s)),
-    }
-}
-
-// An operand at `s`, which is left of a text of `total` bytes, inside `depth` parentheses, with `pending` nodes to come before the rule is whole.
-#[cycle(level_operand_tighter)]
-fn operand<'a>(
-    s: &'a [u8],
-    total: usize,
-    depth: usize,
-    pending: usize,
-    table: &mut Table,
-) -> Result<(u8, &'a [u8]), Stop>
-    requires shallow { depth ≤ 16 }
-    requires fits { table.old.size + pending ≤ 64 }
-    requires few { table.old.count ≤ 8 }
-    ensures { MatchResult result (λ p. Parsed total 7 s.now p.1.now depth pending table.old table.new p.0) (λ f. Halts s.now (want depth (table.old.size + pending) (names_in table.old)) f) }
+    ensures { MatchResult result (λ r. lex s.now ≡ sign (closer depth) r.now) (λ f. NextStep s.now depth (halt f)) }
 {
     let (m, rest) = next_sign(s)?;
     match m {
-        Sign::Name(name) => {
-            room(s, table.size + pending)?;
-            let i = number(total, s, name, table)?;
-            Ok((put(table, Node::Letter(i)), rest))
+        Sign::Close if depth > 0 => Ok(rest),
+        Sign::End if depth == 0 => Ok(rest),
+        _ => Err(Stop::at(Why::Misplaced, s)),
+    }
+}
+
+impl Spot {
+    // Whether a sign at `s` may make a node.
+    fn room(self, s: &[u8], table: &Table) -> Result<(), Stop>
+        ensures { MatchResult result (λ _. table.now.size + self.pending < 64) (λ f. (64 ≤ table.now.size + self.pending) × (f ≡ stop_at ManyNodes s.now)) }
+    {
+        if self.pending >= NODES - table.size {
+            return Err(Stop::at(Why::ManyNodes, s));
         }
-        Sign::Truth(v) => {
-            room(s, table.size + pending)?;
-            Ok((put(table, Node::Truth(v)), rest))
-        }
-        Sign::Before(u) => {
-            room(s, table.size + pending)?;
-            let (a, end) = operand(rest, total, depth, pending + 1, table)?;
-            Ok((put(table, Node::Before(u, a)), end))
-        }
-        Sign::Open => {
-            if depth == DEPTH {
-                return Err(stop_at(Why::DeepNesting, s));
+        Ok(())
+    }
+
+    // An operand at `s`. Answers its node's number, and what is behind it.
+    #[cycle(level_operand_tighter)]
+    fn operand<'a>(self, s: &'a [u8], table: &mut Table) -> Result<(u8, &'a [u8]), Stop>
+        ensures { MatchResult result (λ p. Parsed self.total 7 s.now p.1.now self.depth self.pending table.old table.new p.0) (λ f. Halts s.now (want self.depth (table.old.size + self.pending) (names_in table.old)) f) }
+    {
+        let (m, rest) = next_sign(s)?;
+        match m {
+            Sign::Name(name) => {
+                self.room(s, table)?;
+                let i = table.number(self.total, s, name)?;
+                Ok((table.put(Node::Letter(i)), rest))
             }
-            let (a, end) = level(LOOSEST, rest, total, depth + 1, pending, table)?;
-            let after = closed(end, depth + 1, table.size + pending)?;
-            Ok((a, after))
+            Sign::Truth(v) => {
+                self.room(s, table)?;
+                Ok((table.put(Node::Truth(v)), rest))
+            }
+            Sign::Before(u) => {
+                self.room(s, table)?;
+                let behind = Spot {
+                    pending: self.pending + 1,
+                    ..self
+                };
+                let (a, end) = behind.operand(rest, table)?;
+                Ok((table.put(Node::Before(u, a)), end))
+            }
+            Sign::Open => {
+                if self.depth >= DEPTH {
+                    return Err(Stop::at(Why::DeepNesting, s));
+                }
+                let inside = Spot {
+                    depth: self.depth + 1,
+                    ..self
+                };
+                let (a, end) = inside.level(LOOSEST, rest, table)?;
+                let after = closed(end, inside.depth)?;
+                Ok((a, after))
+            }
+            _ => Err(Stop::at(Why::Misplaced, s)),
         }
-        _ => Err(stop_at(Why::Misplaced, s)),
     }
-}
 
-// What binds tighter than level `k`.
-#[cycle(level_operand_tighter)]
-fn tighter<'a>(
-    k: u8,
-    s: &'a [u8],
-    total: usize,
-    depth: usize,
-    pending: usize,
-    table: &mut Table,
-) -> Result<(u8, &'a [u8]), Stop>
-    requires level { (1 ≤ k) × (k ≤ 6) }
-    requires shallow { depth ≤ 16 }
-    requires fits { table.old.size + pending ≤ 64 }
-    requires few { table.old.count ≤ 8 }
-    ensures { MatchResult result (λ p. Parsed total (suc k) s.now p.1.now depth pending table.old table.new p.0 × (rank_at p.1.now < suc k)) (λ f. Halts s.now (want depth (table.old.size + pending) (names_in table.old)) f) }
-{
-    if k == TIGHTEST {
-        operand(s, total, depth, pending, table)
-    } else {
-        level(k + 1, s, total, depth, pending, table)
-    }
-}
-
-// Level `k` of the grammar: operands of what binds tighter, with the sign of rank `k` between them.
-#[cycle(level_operand_tighter)]
-fn level<'a>(
-    k: u8,
-    s: &'a [u8],
-    total: usize,
-    depth: usize,
-    pending: usize,
-    table: &mut Table,
-) -> Result<(u8, &'a [u8]), Stop>
-    requires level { (1 ≤ k) × (k ≤ 6) }
-    requires shallow { depth ≤ 16 }
-    requires fits { table.old.size + pending ≤ 64 }
-    requires few { table.old.count ≤ 8 }
-    ensures { MatchResult result (λ p. Parsed total k s.now p.1.now depth pending table.old table.new p.0 × (rank_at p.1.now < k)) (λ f. Halts s.now (want depth (table.old.size + pending) (names_in table.old)) f) }
-{
-    let (mut left, mut rest) = tighter(k, s, total, depth, pending, table)?;
-    loop {
-        let (m, after) = next_sign(rest)?;
-        let Sign::Between(b) = m else {
-            return Ok((left, rest));
-        };
-        if rank(b) != k {
-            return Ok((left, rest));
-        }
-        room(rest, table.size + pending)?;
-        let (right, end) = if to_right(b) {
-            level(k, after, total, depth, pending + 1, table)?
+    // What binds tighter than level `k`.
+    #[cycle(level_operand_tighter)]
+    fn tighter<'a>(self, k: u8, s: &'a [u8], table: &mut Table) -> Result<(u8, &'a [u8]), Stop>
+        requires { (1 ≤ k) × (k ≤ 6) }
+        ensures { MatchResult result (λ p. Parsed self.total (suc k) s.now p.1.now self.depth self.pending table.old table.new p.0 × (rank_at p.1.now < suc k)) (λ f. Halts s.now (want self.depth (table.old.size + self.pending) (names_in table.old)) f) }
+    {
+        if k == TIGHTEST {
+            self.operand(s, table)
         } else {
-            tighter(k, after, total, depth, pending + 1, table)?
-        };
-        left = put(table, Node::Between(b, left, right));
-        rest = end;
+            self.level(k + 1, s, table)
+        }
+    }
+
+    // Level `k` of the grammar: operands of what binds tighter, with the sign of rank `k` between them.
+    #[cycle(level_operand_tighter)]
+    fn level<'a>(self, k: u8, s: &'a [u8], table: &mut Table) -> Result<(u8, &'a [u8]), Stop>
+        requires { (1 ≤ k) × (k ≤ 6) }
+        ensures { MatchResult result (λ p. Parsed self.total k s.now p.1.now self.depth self.pending table.old table.new p.0 × (rank_at p.1.now < k)) (λ f. Halts s.now (want self.depth (table.old.size + self.pending) (names_in table.old)) f) }
+    {
+        let (mut left, mut rest) = self.tighter(k, s, table)?;
+        loop {
+            let (m, after) = next_sign(rest)?;
+            let Sign::Between(b) = m else {
+                return Ok((left, rest));
+            };
+            if b.rank() != k {
+                return Ok((left, rest));
+            }
+            self.room(rest, table)?;
+            let behind = Spot {
+                pending: self.pending + 1,
+                ..self
+            };
+            let (right, end) = if b.to_right() {
+                behind.level(k, after, table)?
+            } else {
+                behind.tighter(k, after, table)?
+            };
+            left = table.put(Node::Between(b, left, right));
+            rest = end;
+        }
     }
 }
 
@@ -200,10 +158,13 @@ fn level<'a>(
 pub(crate) fn parse(text: &[u8]) -> Result<Table, Stop>
     ensures { MatchResult result (λ b. Built text.now b) (λ f. Halts text.now (want 0 0 []) f) }
 {
-    // its room is taken from the first node on
-    let mut table = Table::verum();
-    table.size = 0;
-    let (_, rest) = level(LOOSEST, text, text.len(), 0, 0, &mut table)?;
-    ended(rest, table.size)?;
+    let mut table = Table::empty();
+    let front = Spot {
+        total: text.len(),
+        depth: 0,
+        pending: 0,
+    };
+    let (_, rest) = front.level(LOOSEST, text, &mut table)?;
+    closed(rest, front.depth)?;
     Ok(table)
 }

@@ -5,23 +5,32 @@ ghost use Rattle.rules.specs.Tree.{fits, node_at, decode, flatten};
 use crate::name::Name;
 use crate::node::Node;
 
+// The most nodes of a rule.
+pub(crate) const NODES: usize = 64;
+
+// The most letters of a rule.
+pub(crate) const LETTERS: usize = 8;
+
 // A name of a rule, and the byte of its text at which it first appears.
-#[derive(Clone, Copy)]
+#[derive(Clone, Copy, Debug)]
 pub struct Letter {
     pub name: Name,
     pub at: usize,
 }
 
-// The first `size` nodes and the first `count` letters, each in the order of the text.
-#[derive(Clone, Copy)]
+// The first `size` nodes and the first `count` letters, each in the order of the text. Buffers with their lengths, since nothing here is on a heap.
+#[derive(Clone, Copy, Debug)]
 pub struct Table {
-    pub(crate) nodes: [Node; 64],
+    pub(crate) nodes: [Node; NODES],
     pub(crate) size: usize,
-    pub(crate) letters: [Letter; 8],
+    pub(crate) letters: [Letter; LETTERS],
     pub(crate) count: usize,
+    ghost few: { size ≤ 64 },
+    ghost known: { count ≤ 8 },
 }
 
-#[derive(Clone, Copy)]
+// What is said of its size and count is the table's too: here readers of a rule find it.
+#[derive(Clone, Copy, Debug)]
 pub struct Rule {
     pub(crate) table: Table,
     ghost some: { 1 ≤ table.size },

@@ -3,7 +3,7 @@ use crate::name::Name;
 use crate::node::{Binary, Unary};
 
 // What a byte can be.
-#[derive(Clone, Copy)]
+#[derive(Clone, Copy, PartialEq, Eq, Debug)]
 pub enum Class {
     Letter,
     Digit,
@@ -12,7 +12,8 @@ pub enum Class {
     Other,
 }
 
-#[derive(Clone, Copy)]
+// No derived ==, since names have none.
+#[derive(Clone, Copy, Debug)]
 pub enum Sign {
     Before(Unary),
     Between(Binary),
@@ -23,7 +24,7 @@ pub enum Sign {
     End,
 }
 
-#[derive(Clone, Copy)]
+#[derive(Clone, Copy, PartialEq, Eq, Debug)]
 pub enum Why {
     NoSign,
     LongName,
@@ -34,7 +35,7 @@ pub enum Why {
 }
 
 // Why the reading stops, and how many bytes are left there.
-#[derive(Clone, Copy)]
+#[derive(Clone, Copy, PartialEq, Eq, Debug)]
 pub struct Stop {
     pub why: Why,
     pub left: usize,

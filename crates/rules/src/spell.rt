@@ -1,28 +1,32 @@
 // A name from its bytes.
 ghost use Rattle.std.specs.Prelude.{◌≡◌, true, false, MatchOption};
 ghost use Rattle.rules.specs.Names.{spelled};
-ghost use Rattle.rules.specs.Signs.{is_name};
+ghost use Rattle.rules.specs.Signs.{from_letter, all_in_word, is_name};
 
-use crate::class::class_of;
-use crate::lex::{NAME_BYTES, copied, reserved, run_len};
-use crate::name::Name;
+use crate::class::in_word;
+use crate::lex::reserved;
+use crate::name::{NAME_BYTES, Name};
 use crate::sign::Class;
+
+// Whether the first byte is a letter.
+fn from_letter(text: &[u8]) -> bool
+    ensures { result ≡ from_letter text.now }
+{
+    matches!(text, [b, ..] if Class::from(*b) == Class::Letter)
+}
+
+// Whether each byte may stand in a word.
+fn all_in_word(text: &[u8]) -> bool
+    ensures { result ≡ all_in_word text.now }
+{
+    text.iter().all(|b| in_word(*b))
+}
 
 // Whether the bytes are a name.
 fn is_name(text: &[u8]) -> bool
     ensures { result ≡ is_name text.now }
 {
-    let [first, ..] = text else {
-        return false;
-    };
-    match class_of(*first) {
-        Class::Letter => {}
-        _ => return false,
-    }
-    if run_len(text) < text.len() || text.len() > NAME_BYTES {
-        return false;
-    }
-    reserved(text).is_none()
+    from_letter(text) && all_in_word(text) && text.len() <= NAME_BYTES && reserved(text).is_none()
 }
 
 impl Name {
@@ -30,10 +34,6 @@ impl Name {
     pub fn read(text: &[u8]) -> Option<Name>
         ensures { MatchOption result (is_name text.now ≡ false) (λ n. (is_name text.now ≡ true) × (spelled n ≡ text.now)) }
     {
-        if is_name(text) {
-            Some(copied(text, text.len()))
-        } else {
-            None
-        }
+        is_name(text).then(|| Name::copied(text))
     }
 }

@@ -3,4 +3,4 @@ use Rattle.rules.proofs.ClassTable.{entry_at}
 use Rattle.rules.proofs.class.class_code.Goals as goal
 
 pub returns : goal.returns
-returns c = entry_at 256 c.args.b (omega arith)
+returns c = rw c.from.ensures (entry_at 256 c.args.b (omega arith))

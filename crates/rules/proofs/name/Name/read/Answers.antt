@@ -1,7 +1,7 @@
-use Rattle.std.proofs.Common.{sym, ap, ◌∙◌}
-use Rattle.rules.specs.Names.{spelled}
-use Rattle.rules.proofs.NameBytes.{spelled_copy}
+use Rattle.std.proofs.Common.{arith}
+use Rattle.std.proofs.iter.Serving.{serving}
+use Rattle.rules.proofs.NameBytes.{short_name}
 use Rattle.rules.proofs.name.Name.read.Goals as goal
 
-pub returns-then-is_name : goal.returns-then-is_name
-returns-then-is_name c = (sym c.if-is_name.ensures, ap spelled c.copied.ensures ∙ spelled_copy c.args.text.now)
+pub then-requires : goal.then-requires
+then-requires c = grind (serving, arith, short_name)

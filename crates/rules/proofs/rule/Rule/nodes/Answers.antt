@@ -1,8 +1,6 @@
-use Rattle.std.proofs.Common.{◌≡◌, take, sym, ◌∙◌, rules}
+use Rattle.std.proofs.Common.{sym}
 use Rattle.rules.proofs.Flat.{rule_flat}
 use Rattle.rules.proofs.rule.Rule.nodes.Goals as goal
 
-pub returns : goal.returns
-returns c =
-    let rule = c.args.self.now in
-    record { same = search rules; long = search rules; whole = let is : _ ≡ take rule.table.size rule.table.nodes = search rules in is ∙ sym (rule_flat rule) }
+pub returns-clause-whole : goal.returns-clause-whole
+returns-clause-whole c = sym (rule_flat c.args.self.now)

@@ -1,7 +1,7 @@
 use Rattle.std.proofs.Common.{◌+◌, ◌-◌, ◌*◌, length}
 use Rattle.rules.specs.declared.rule.Table.{Table}
 use Rattle.rules.proofs.Levels.{Sofar}
-use Rattle.rules.proofs.parse.+level_operand_tighter.Given as goal
+use Rattle.rules.proofs.spot.Spot.+level_operand_tighter.Given as goal
 
 -- the bytes that are left, and at the same place what binds tighter is less
 abbrev pub decreases-operand : goal.decreases-operand
@@ -15,7 +15,7 @@ decreases-level l = 16 * length l.s.now + (14 - 2 * l.k)
 
 abbrev pub invariant-level-loop-m : goal.invariant-level-loop-m
 invariant-level-loop-m l =
-    (a : Table) → Sofar l.total l.k l.s l.initial.rest l.depth l.pending a l.initial.table l.initial.left → Sofar l.total l.k l.s l.rest l.depth l.pending a l.table l.left
+    (a : Table) → Sofar l.self.total l.k l.s l.initial.rest l.self.depth l.self.pending a l.initial.table l.initial.left → Sofar l.self.total l.k l.s l.rest l.self.depth l.self.pending a l.table l.left
 
 abbrev pub decreases-level-loop-m : goal.decreases-level-loop-m
 decreases-level-loop-m l = length l.rest

@@ -1,0 +1,142 @@
+use Rattle.std.proofs.Common.{ℕ, suc, ◌+◌, ◌<◌, refl, sym, ◌∙◌, subst₂, inl, inr, arith}
+use Rattle.rules.specs.Descent.{Parsed}
+use Rattle.rules.specs.Names.{names_in}
+use Rattle.rules.specs.Rest.{rank_at}
+use Rattle.rules.proofs.Fronts.{is_sign, shorter}
+use Rattle.rules.proofs.Levels.{behind_between, name_parsed, truth_parsed, before_parsed, group_parsed, start, rank_next, no_rank, Side, side_shorter, turn_on}
+use Rattle.rules.proofs.Steps.{later, at_once, at_bad, full, stopped_at, many_names, too_deep, no_operand, behind_before, behind_open}
+use Rattle.rules.proofs.spot.Spot.+level_operand_tighter.Goals as goal
+use Rattle.rules.proofs.spot.Spot.+level_operand_tighter.Goals.{level-then-to_right+in_ok-level, level-else-to_right+in_ok-right}
+
+-- LEVEL
+
+pub level-returns-in_err-m : goal.level-returns-in_err-m
+level-returns-in_err-m t c =
+    let so = c.loop-m.invariant c.args.table.now (start c.in_ok-left.ensures) in
+    stopped_at _ _ c.from_residual-in_err-m.ensures.1 (later so.parsed.scans (at_bad {s = c.loop-m.rest.now} _ c.in_err-m.ensures))
+
+pub level-returns-in_default : goal.level-returns-in_default
+level-returns-in_default t c =
+    let so = c.loop-m.invariant c.args.table.now (start c.in_ok-left.ensures) in
+    (so.parsed, omega (arith, rank_next c.loop-m.rest.now c.in_ok-m.ensures, no_rank c.in_ok-m.m c.in_default.not-Between))
+
+pub level-returns-then-rank-k : goal.level-returns-then-rank-k
+level-returns-then-rank-k t c =
+    let so = c.loop-m.invariant c.args.table.now (start c.in_ok-left.ensures) in
+    let e = is_sign c.in_ok-m.ensures c.in-Between.is in
+    (so.parsed, omega (arith, rank_next c.loop-m.rest.now e, so.below))
+
+pub level-returns-in_err-room : goal.level-returns-in_err-room
+level-returns-in_err-room t c =
+    let so = c.loop-m.invariant c.args.table.now (start c.in_ok-left.ensures) in
+    let e = is_sign c.in_ok-m.ensures c.in-Between.is in
+    stopped_at _ _ c.from_residual-in_err-room.ensures.1 (later so.parsed.scans (full _ e refl c.in_err-room.ensures))
+
+pub level-level-requires : goal.level-level-requires
+level-level-requires t c =
+    let so = c.loop-m.invariant c.args.table.now (start c.in_ok-left.ensures) in
+    let e = is_sign c.in_ok-m.ensures c.in-Between.is in
+    omega (arith, shorter c.loop-m.rest.now e (λ no. cc), so.parsed.shorter, c.in_ok-room.ensures)
+
+pub level-returns-in_err-level : goal.level-returns-in_err-level
+level-returns-in_err-level t c =
+    let so = c.loop-m.invariant c.args.table.now (start c.in_ok-left.ensures) in
+    let e = is_sign c.in_ok-m.ensures c.in-Between.is in
+    stopped_at _ _ c.from_residual-in_err-level.ensures.1 (behind_between so.parsed e c.in_ok-room.ensures c.in_err-level.ensures)
+
+pub level-tighter-requires-else-to_right : goal.level-tighter-requires-else-to_right
+level-tighter-requires-else-to_right t c =
+    let so = c.loop-m.invariant c.args.table.now (start c.in_ok-left.ensures) in
+    let e = is_sign c.in_ok-m.ensures c.in-Between.is in
+    omega (arith, shorter c.loop-m.rest.now e (λ no. cc), so.parsed.shorter, c.in_ok-room.ensures)
+
+pub level-returns-in_err-right : goal.level-returns-in_err-right
+level-returns-in_err-right t c =
+    let so = c.loop-m.invariant c.args.table.now (start c.in_ok-left.ensures) in
+    let e = is_sign c.in_ok-m.ensures c.in-Between.is in
+    stopped_at _ _ c.from_residual-in_err-right.ensures.1 (behind_between so.parsed e c.in_ok-room.ensures c.in_err-right.ensures)
+
+-- both ways of the right side
+side : (t : ℕ) (c : goal.level-After-put-left t) → Side c.args.self.total c.in-Between.b c.args.k c.in_ok-m.after.now c.if-to_right.right.1.now c.args.self.depth (c.args.self.pending + 1) c.loop-m.table c.if-to_right.table c.if-to_right.right.0
+side t c =
+    elim c.if-to_right.branch [
+      | level-then-to_right+in_ok-level w ↦
+          inl (sym w.if-to_right.ensures, subst₂ (λ r u. Parsed c.args.self.total c.args.k c.in_ok-m.after.now r.1.now c.args.self.depth (c.args.self.pending + 1) c.loop-m.table u r.0 × (rank_at r.1.now < c.args.k)) (sym w.right-is) (sym w.table-is) w.in_ok-level.ensures)
+      | level-else-to_right+in_ok-right w ↦
+          inr (sym w.if-to_right.ensures, subst₂ (λ r u. Parsed c.args.self.total (suc c.args.k) c.in_ok-m.after.now r.1.now c.args.self.depth (c.args.self.pending + 1) c.loop-m.table u r.0 × (rank_at r.1.now < suc c.args.k)) (sym w.right-is) (sym w.table-is) w.in_ok-right.ensures)
+    ]
+
+pub level-loop-m-smaller : goal.level-loop-m-smaller
+level-loop-m-smaller t c =
+    let e = is_sign c.in_ok-m.ensures c.in-Between.is in
+    omega (arith, shorter c.loop-m.rest.now e (λ no. cc), side_shorter c.in-Between.b (side t c))
+
+pub level-loop-m-preserved : goal.level-loop-m-preserved
+level-loop-m-preserved t c = λ a s.
+    let e = is_sign c.in_ok-m.ensures c.in-Between.is in
+    turn_on (c.loop-m.invariant a s) e (sym c.rank.ensures ∙ c.if-rank-k.false) c.in_ok-room.ensures (side t c)
+    c.put-left.ensures
+
+-- OPERAND
+
+pub operand-returns-in_err-m : goal.operand-returns-in_err-m
+operand-returns-in_err-m t c =
+    stopped_at _ _ c.from_residual.ensures.1 (at_bad _ c.in_err-m.ensures)
+
+pub operand-returns-in_err-room-in-Name : goal.operand-returns-in_err-room-in-Name
+operand-returns-in_err-room-in-Name t c =
+    stopped_at _ _ c.from_residual-in_err-room-in-Name.ensures.1 (full _ (is_sign c.in_ok-m.ensures c.in-Name.is) refl c.in_err-room-in-Name.ensures)
+
+pub operand-returns-in_err-room-in-Truth : goal.operand-returns-in_err-room-in-Truth
+operand-returns-in_err-room-in-Truth t c =
+    stopped_at _ _ c.from_residual-in_err-room-in-Truth.ensures.1 (full _ (is_sign c.in_ok-m.ensures c.in-Truth.is) refl c.in_err-room-in-Truth.ensures)
+
+pub operand-returns-in_err-room-in-Before : goal.operand-returns-in_err-room-in-Before
+operand-returns-in_err-room-in-Before t c =
+    stopped_at _ _ c.from_residual-in_err-room-in-Before.ensures.1 (full _ (is_sign c.in_ok-m.ensures c.in-Before.is) refl c.in_err-room-in-Before.ensures)
+
+pub operand-operand-requires : goal.operand-operand-requires
+operand-operand-requires t c =
+    omega (arith, shorter c.args.s.now (is_sign c.in_ok-m.ensures c.in-Before.is) (λ no. cc), c.in_ok-room-in-Before.ensures)
+
+pub operand-returns-in_err-a-in-Before : goal.operand-returns-in_err-a-in-Before
+operand-returns-in_err-a-in-Before t c =
+    stopped_at _ _ c.from_residual-in_err-a-in-Before.ensures.1 (behind_before c.args.s.now c.in_ok-m.rest.now c.args.self.depth c.args.table.now.size (names_in c.args.table.now) c.args.self.pending (is_sign c.in_ok-m.ensures c.in-Before.is) c.in_ok-room-in-Before.ensures c.in_err-a-in-Before.ensures)
+
+pub operand-returns-then-self-ge-DEPTH : goal.operand-returns-then-self-ge-DEPTH
+operand-returns-then-self-ge-DEPTH t c = too_deep _ _ _ _ _ (is_sign c.in_ok-m.ensures c.in-Open.is) (omega arith) c.at.ensures
+
+pub operand-level-requires : goal.operand-level-requires
+operand-level-requires t c = omega (arith, shorter c.args.s.now (is_sign c.in_ok-m.ensures c.in-Open.is) (λ no. cc))
+
+pub operand-returns-in_err-a-in-Open : goal.operand-returns-in_err-a-in-Open
+operand-returns-in_err-a-in-Open t c =
+    stopped_at _ _ c.from_residual-in_err-a-in-Open.ensures.1 (behind_open _ _ _ _ _ (is_sign c.in_ok-m.ensures c.in-Open.is) (omega arith) c.in_err-a-in-Open.ensures)
+
+pub operand-returns-in_err-after-in-Open : goal.operand-returns-in_err-after-in-Open
+operand-returns-in_err-after-in-Open t c =
+    stopped_at _ _ c.from_residual-in_err-after-in-Open.ensures.1 (behind_open _ _ _ _ _ (is_sign c.in_ok-m.ensures c.in-Open.is) (omega arith) (later c.in_ok-a-in-Open.ensures.0.scans (at_once (c.in_err-after-in-Open.ensures _ _))))
+
+pub operand-returns-in_err-i-in-Name : goal.operand-returns-in_err-i-in-Name
+operand-returns-in_err-i-in-Name t c =
+    stopped_at _ _ c.from_residual-in_err-i-in-Name.ensures.1 (many_names _ _ _ _ _ (is_sign c.in_ok-m.ensures c.in-Name.is) c.in_ok-room-in-Name.ensures c.in_err-i-in-Name.ensures)
+
+pub operand-returns-in_ok-i-in-Name : goal.operand-returns-in_ok-i-in-Name
+operand-returns-in_ok-i-in-Name t c =
+    name_parsed (is_sign c.in_ok-m.ensures c.in-Name.is) c.in_ok-room-in-Name.ensures c.in_ok-i-in-Name.ensures c.put.ensures
+
+pub operand-returns-in_ok-room-in-Truth : goal.operand-returns-in_ok-room-in-Truth
+operand-returns-in_ok-room-in-Truth t c =
+    truth_parsed (is_sign c.in_ok-m.ensures c.in-Truth.is) c.in_ok-room-in-Truth.ensures c.put-in-Truth.ensures
+
+pub operand-returns-in_ok-a-in-Before : goal.operand-returns-in_ok-a-in-Before
+operand-returns-in_ok-a-in-Before t c =
+    before_parsed (is_sign c.in_ok-m.ensures c.in-Before.is) c.in_ok-room-in-Before.ensures c.in_ok-a-in-Before.ensures c.put-in-Before.ensures
+
+pub operand-returns-in_ok-after-in-Open : goal.operand-returns-in_ok-after-in-Open
+operand-returns-in_ok-after-in-Open t c =
+    group_parsed (is_sign c.in_ok-m.ensures c.in-Open.is) (omega arith) c.in_ok-a-in-Open.ensures.0 c.in_ok-after-in-Open.ensures
+
+pub operand-returns-in_default : goal.operand-returns-in_default
+operand-returns-in_default t c =
+    no_operand _ _ _ _ _ c.in_ok-m.ensures c.at-in_default.ensures c.in_default.not-Before c.in_default.not-Truth c.in_default.not-Name c.in_default.not-Open

@@ -1,0 +1,7 @@
+// Where a rule is read: in a text of `total` bytes, inside `depth` parentheses, with `pending` nodes to come before the rule is whole.
+#[derive(Clone, Copy, PartialEq, Eq, Debug)]
+pub struct Spot {
+    pub total: usize,
+    pub depth: usize,
+    pub pending: usize,
+}
