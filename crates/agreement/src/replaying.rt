@@ -16,8 +16,8 @@ pub fn replay<R: Reading + Drop>(
     ensures { Agreement (subject_of R.meaning bound) calls.now answers.old answers.new result }
 {
     let mut monitor = Monitor::open(bound);
-    for i in 0..calls.len() {
-        let answer = serve(&mut monitor, calls[i]);
+    for (i, call) in calls.iter().enumerate() {
+        let answer = serve(&mut monitor, *call);
         if i < answers.len() {
             answers[i] = answer;
         }

@@ -16,6 +16,7 @@ fn is_on(letters: u8, l: u8) -> bool
     l < 8 && (letters >> l) & 1 == 1
 }
 
+// A function and no `From`: neither type is this crate's.
 fn constant(v: bool) -> VectorSet
     ensures { (v' : ℕ) → v' < 256 → vectors result v' ≡ v }
 {
@@ -33,6 +34,7 @@ fn variable(number: u8) -> VectorSet
     Residual::variable(number).to_values()
 }
 
+// The operators are not those of a scale of verdicts: a table has one step for what `Xor` and `Iff` of a scale do in five.
 // `next` is the operand's value after the event, and `own` the operator's.
 fn unary(op: Unary, x: VectorSet, next: VectorSet, own: VectorSet) -> VectorSet
     ensures { (v : ℕ) → v < 256 → vectors result v ≡ unary_row bools op (vectors x v) (vectors next v) (vectors own v) }

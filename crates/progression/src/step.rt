@@ -9,6 +9,7 @@ ghost use Rattle.progression.specs.Tables.{StandsFor, Tabled, Changes};
 use crate::operators::node_table;
 use crate::plan::Plan;
 use polynomials::{Residual, VectorSet};
+use std::array;
 
 impl Plan {
     // The truth table of each node at an event with these letters.
@@ -17,9 +18,8 @@ impl Plan {
     {
         let mut tables = [VectorSet::empty(); 64];
         let nodes = self.rule.nodes();
-        for j in 0..nodes.len() {
-            let table = node_table(nodes[j], j, &self.numbers, &tables, letters);
-            tables[j] = table;
+        for (j, node) in nodes.iter().enumerate() {
+            tables[j] = node_table(*node, j, &self.numbers, &tables, letters);
         }
         tables
     }
@@ -30,11 +30,7 @@ impl Plan {
         requires tabled { Tabled self.now.rule letters (node_count self.now.rule) tables.now }
         ensures { (v : ℕ) → v < 256 → vectors result v ≡ value (change self.now.rule letters i) v }
     {
-        if i < self.count {
-            tables[self.places[i] as usize]
-        } else {
-            VectorSet::empty()
-        }
+        self.place(i).map_or(VectorSet::empty(), |j| tables[j])
     }
 
     // The truth table of what an event with these letters puts in the place of each obligation.
@@ -42,12 +38,7 @@ impl Plan {
         ensures { Changes self.now.rule letters result }
     {
         let tables = self.node_tables(letters);
-        let mut changes = [VectorSet::empty(); 8];
-        for i in 0..8 {
-            let table = self.change(letters, &tables, i);
-            changes[i] = table;
-        }
-        changes
+        array::from_fn(|i| self.change(letters, &tables, i))
     }
 
     // What an event with these letters leaves of what was left before it.

@@ -7,6 +7,7 @@ ghost use Rattle.progression.specs.Tables.{Changes, AllChanges};
 use crate::plan::Plan;
 use polynomials::VectorSet;
 use reachable::Machine;
+use std::array;
 
 // The tables of every set of letters, and the sets that are possible. It is large, and wanted only while a monitor is opened.
 #[derive(Drop)]
@@ -22,12 +23,12 @@ pub struct Transitions {
 fn all_changes(plan: &Plan) -> [[VectorSet; 8]; 256]
     ensures { (a : ℕ) → a < 256 → Changes plan.now.rule a (slice_index_or result a []) }
 {
-    let mut tables = [[VectorSet::empty(); 8]; 256];
-    for a in 0..256 {
-        let changes = plan.changes(a as u8);
-        tables[a] = changes;
-    }
-    tables
+    array::from_fn(
+        |a|
+            requires { a < 256 }
+            ensures { Changes plan.entry.now.rule a result }
+        { plan.changes(a as u8) },
+    )
 }
 
 impl Transitions {
