@@ -21,14 +21,14 @@ use Rattle.readings.specs.declared.listed.NameList.{NameList}
 abbrev pub hit : List (List ℕ) → List ℕ → ℕ → Option ℕ
 hit ns n i = cond (same_name (name_at ns i) n) (Some (i + 1)) None
 
-taken : (l : NameList) → length (take l.count l.names) ≡ l.count
+taken : {most : ℕ} (l : NameList most) → length (take l.count l.names) ≡ l.count
 taken l = length-take-le l.count l.names (omega (arith, l.few, l.long))
 
-pub spellings_length : (l : NameList) → length (spellings l) ≡ l.count
+pub spellings_length : {most : ℕ} (l : NameList most) → length (spellings l) ≡ l.count
 spellings_length l = length-map (take l.count l.names) spelled ∙ taken l
 
 -- name i of a list is what its element spells
-pub spelling_at : (l : NameList) (i : ℕ) (d : Name) → i < l.count → name_at (spellings l) i ≡ spelled (slice_index_or l.names i d)
+pub spelling_at : {most : ℕ} (l : NameList most) (i : ℕ) (d : Name) → i < l.count → name_at (spellings l) i ≡ spelled (slice_index_or l.names i d)
 spelling_at l i d low =
     let long = taken l in
     get_or-map spelled (take l.count l.names) i d [] (omega arith) ∙ ap spelled (get_or-take l.count l.names i d low)

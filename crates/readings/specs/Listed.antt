@@ -13,7 +13,7 @@ abbrev pub lent : List (Bor (List ℕ)) → List (List ℕ)
 lent ns = map (λ x. x.now) ns
 
 -- the spellings of a list of names
-abbrev pub spellings : NameList → List (List ℕ)
+abbrev pub spellings : {most : ℕ} → NameList most → List (List ℕ)
 spellings l = map spelled (take l.count l.names)
 
 -- name i of a list, counted from 0

@@ -4,9 +4,9 @@ ghost use Rattle.std.specs.Prelude.{◌≡◌, ◌≤◌, length};
 use rules::Name;
 
 #[derive(Clone, Copy)]
-pub struct NameList {
-    pub(crate) names: [Name; 32],
+pub struct NameList<const MOST: usize> {
+    pub(crate) names: [Name; MOST],
     pub(crate) count: usize,
-    ghost few: { count ≤ 32 },
-    ghost long: { length names ≡ 32 },
+    ghost few: { count ≤ MOST },
+    ghost long: { length names ≡ MOST },
 }

@@ -1,5 +1,5 @@
 // What a code says of a name.
-#[derive(Clone, Copy)]
+#[derive(Clone, Copy, PartialEq, Eq, Debug)]
 pub enum Mark {
     Off,
     On,

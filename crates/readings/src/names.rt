@@ -1,5 +1,5 @@
 // Checking a list of names, making one, and finding a name in it.
-ghost use Rattle.std.specs.Prelude.{◌≡◌, ℕ, ◌+◌, ◌<◌, ◌≤◌, ◌&&◌, List, [], ◌∷◌, ◌++◌, length, Some, None, MatchResult, nat_le, nat_lt};
+ghost use Rattle.std.specs.Prelude.{◌≡◌, ℕ, ◌+◌, ◌<◌, ◌≤◌, ◌&&◌, List, [], ◌∷◌, ◌++◌, length, Some, None, MatchOption, MatchResult, nat_le, nat_lt};
 ghost use Rattle.rules.specs.First.{answer};
 ghost use Rattle.rules.specs.Names.{spelled};
 ghost use Rattle.readings.specs.Listed.{lent, spellings, find_in, refused_names, kept_by};
@@ -7,19 +7,19 @@ ghost use Rattle.readings.specs.Listed.{lent, spellings, find_in, refused_names,
 use crate::listed::NameList;
 use rules::{Fault, Name, same_name};
 
-impl NameList {
-    fn empty() -> NameList
+impl<const MOST: usize> NameList<MOST> {
+    fn empty() -> NameList<MOST>
         ensures { result.count ≡ 0 }
     {
         NameList {
-            names: [Name::none(); 32],
+            names: [Name::none(); MOST],
             count: 0,
         }
     }
 
     // Writes a name behind the others.
     fn push(&mut self, name: Name)
-        requires { self.old.count < 32 }
+        requires { self.old.count < MOST }
         ensures names { spellings self.new ≡ spellings self.old ++ spelled name ∷ [] }
         ensures count { self.new.count ≡ self.old.count + 1 }
     {
@@ -28,16 +28,25 @@ impl NameList {
         self.count = at + 1;
     }
 
-    // The number of a name, from 1 on.
-    pub(crate) fn find(&self, name: &[u8]) -> Option<u8>
-        ensures { result ≡ find_in (spellings self.now) name.now }
+    // The place of a name, from 0 on.
+    fn place(&self, name: &[u8]) -> Option<usize>
+        ensures { MatchOption result (find_in (spellings self.now) name.now ≡ None) (λ i. (i < self.now.count) × (find_in (spellings self.now) name.now ≡ Some (i + 1))) }
     {
         for i in 0..self.count {
             if same_name(self.names[i].text(), name) {
-                return Some(i as u8 + 1);
+                return Some(i);
             }
         }
         None
+    }
+
+    // The number of a name, from 1 on. A number is a byte.
+    pub(crate) fn find(&self, name: &[u8]) -> Option<u8>
+        requires { MOST < 256 }
+        ensures { result ≡ find_in (spellings self.now) name.now }
+    {
+        let i = self.place(name)?;
+        Some(i as u8 + 1)
     }
 
     // Whether a name has this number.
@@ -47,21 +56,17 @@ impl NameList {
         name > 0 && name as usize <= self.count
     }
 
-    // The list of these names, at most so many, or why it is refused.
-    fn gather(names: &[&[u8]], most: usize) -> Result<NameList, Fault>
-        requires { most ≤ 32 }
-        ensures { MatchResult result (λ l. (refused_names most (lent names.now) ≡ None) × (spellings l ≡ lent names.now)) (λ f. refused_names most (lent names.now) ≡ Some f) }
+    // The list of these names, or why it is refused.
+    fn gather(names: &[&[u8]]) -> Result<NameList<MOST>, Fault>
+        ensures { MatchResult result (λ l. (refused_names MOST (lent names.now) ≡ None) × (spellings l ≡ lent names.now)) (λ f. refused_names MOST (lent names.now) ≡ Some f) }
     {
-        if names.len() > most {
-            return Err(Fault::ManyNames(most + 1));
+        if names.len() > MOST {
+            return Err(Fault::ManyNames(MOST + 1));
         }
         let mut list = NameList::empty();
-        for i in 0..names.len() {
-            let text = names[i];
-            let Some(name) = Name::read(text) else {
-                return Err(Fault::NotAName(i + 1));
-            };
-            if list.find(text).is_some() {
+        for (i, text) in names.iter().enumerate() {
+            let name = Name::read(text).ok_or(Fault::NotAName(i + 1))?;
+            if list.place(text).is_some() {
                 return Err(Fault::RepeatedName(i + 1));
             }
             list.push(name);
@@ -70,24 +75,18 @@ impl NameList {
     }
 
     // How many names the list has, or why it is refused.
-    pub(crate) fn check(names: &[&[u8]], most: usize) -> Result<usize, Fault>
-        requires { most ≤ 32 }
-        ensures { result ≡ answer (refused_names most (lent names.now)) (length names.now) }
+    pub(crate) fn check(names: &[&[u8]]) -> Result<usize, Fault>
+        requires { MOST < 256 }
+        ensures { result ≡ answer (refused_names MOST (lent names.now)) (length names.now) }
     {
-        match NameList::gather(names, most) {
-            Ok(_) => Ok(names.len()),
-            Err(f) => Err(f),
-        }
+        NameList::<MOST>::gather(names)?;
+        Ok(names.len())
     }
 
     // The list of these names; no names where the check refuses them.
-    pub(crate) fn new(names: &[&[u8]], most: usize) -> NameList
-        requires { most ≤ 32 }
-        ensures { spellings result ≡ kept_by (refused_names most (lent names.now)) (lent names.now) }
+    pub(crate) fn new(names: &[&[u8]]) -> NameList<MOST>
+        ensures { spellings result ≡ kept_by (refused_names MOST (lent names.now)) (lent names.now) }
     {
-        match NameList::gather(names, most) {
-            Ok(list) => list,
-            Err(_) => NameList::empty(),
-        }
+        NameList::gather(names).unwrap_or(NameList::empty())
     }
 }

@@ -1,10 +1,10 @@
 // Events as a panel's state: eight levels, and for each whether it was answered.
-ghost use Rattle.std.specs.Prelude.{◌≤◌};
-
 use crate::listed::NameList;
+
+// The most names.
+pub(crate) const NAMES: usize = 8;
 
 #[derive(Clone, Copy)]
 pub struct Panel {
-    pub(crate) list: NameList,
-    ghost few: { list.count ≤ 8 },
+    pub(crate) list: NameList<NAMES>,
 }

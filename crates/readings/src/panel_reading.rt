@@ -1,42 +1,25 @@
 // Making a panel reading, and asking it.
-ghost use Rattle.std.specs.Prelude.{◌≡◌, ◌-◌, ◌/◌, ◌%◌, ◌^◌, ◌<◌, ◌≤◌, min, length};
-ghost use Rattle.rules.specs.First.{answer};
-ghost use Rattle.readings.specs.Listed.{lent, spellings, refused_names, kept_by};
-ghost use Rattle.readings.specs.Panel.{panel_meaning, has, told, asked, spread_of};
+ghost use Rattle.std.specs.Prelude.{◌≡◌, min, length, refl};
+ghost use Rattle.readings.specs.Listed.{spellings};
+ghost use Rattle.readings.specs.Panel.{panel_meaning, told, asked, spread_of};
 ghost use Rattle.std.proofs.Common.{arith, rules};
 ghost use Rattle.readings.specs.Finding.{spellings_length, found_within};
 
 use crate::listed::NameList;
 use crate::mark::Mark;
-use crate::panel::Panel;
+use crate::named::Named;
+use crate::panel::{NAMES, Panel};
 use crate::reading::{MOST, Reading, gained};
+use crate::set::has;
 use rules::Fault;
 
-// The most names, and the number of codes.
-const NAMES: usize = 8;
-
+// The number of codes.
 const CODES: u32 = 65_536;
 
 // What the first answer is worth in a code.
 const ANSWERS: u32 = 256;
 
 impl Panel {
-    // How many names there are, or why the list is refused.
-    pub fn check(names: &[&[u8]]) -> Result<usize, Fault>
-        ensures { result ≡ answer (refused_names 8 (lent names.now)) (length names.now) }
-    {
-        NameList::check(names, NAMES)
-    }
-
-    // The reading with these names; with none where the check refuses them.
-    pub fn new(names: &[&[u8]]) -> Panel
-        ensures { spellings result.list ≡ kept_by (refused_names 8 (lent names.now)) (lent names.now) }
-    {
-        Panel {
-            list: NameList::new(names, NAMES),
-        }
-    }
-
     // The places that are on wherever those of the set are: each has a name's number that a place of the set has.
     fn spread(&self, names: &[u8], set: u8) -> u8
         ensures { result ≡ spread_of (length (spellings self.now.list)) names.now set }
@@ -50,14 +33,6 @@ impl Panel {
         }
         on as u8
     }
-}
-
-// Whether bit `i` is set.
-fn has_bit(bits: u32, i: usize) -> bool
-    requires { i < 8 }
-    ensures { result ≡ has bits i }
-{
-    bits >> i & 1 == 1
 }
 
 // What an answer and a level say. A level that was not answered says nothing.
@@ -78,7 +53,7 @@ fn is_asked(names: &[u8], set: u8, name: u8) -> bool
     ensures { result ≡ asked names.now set name (min (length names.now) 8) }
 {
     for i in 0..names.len().min(MOST) {
-        if names[i] == name && has_bit(set as u32, i) {
+        if names[i] == name && has(set, i) {
             return true;
         }
     }
@@ -107,11 +82,33 @@ impl Reading for Panel {
             return Mark::Off;
         }
         let i = name as usize - 1;
-        told_mark(has_bit(code / ANSWERS, i), has_bit(code % ANSWERS, i))
+        let answers = (code / ANSWERS) as u8;
+        let levels = (code % ANSWERS) as u8;
+        told_mark(has(answers, i), has(levels, i))
     }
 
     // With all answered the levels are free. So a set is possible if it has all the places that it spreads to, and no other.
     fn possible(&self, names: &[u8], set: u8) -> bool {
         self.spread(names, set) == set
+    }
+}
+
+impl Named for Panel {
+    ghost most = { 8 };
+
+    ghost listed = { λ p. spellings p.list };
+
+    ghost finds_listed = { λ _ _. refl };
+
+    ghost counts_listed = { λ _. refl };
+
+    fn check(names: &[&[u8]]) -> Result<usize, Fault> {
+        NameList::<NAMES>::check(names)
+    }
+
+    fn new(names: &[&[u8]]) -> Panel {
+        Panel {
+            list: NameList::new(names),
+        }
     }
 }

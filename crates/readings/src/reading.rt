@@ -1,6 +1,6 @@
 // What every reading answers. All of it is read off one value, the reading's meaning.
 ghost use Rattle.std.specs.Prelude.{◌≡◌, ℕ, ◌<◌, ◌≤◌, List, if◌then◌else◌, Some, Decides, bit_and};
-ghost use Rattle.readings.specs.Meaning.{Meaning, mark_of, is_on, in_doubt, on_set, doubt_set, Possible};
+ghost use Rattle.readings.specs.Meaning.{Meaning, mark_of, on_set, doubt_set, Possible};
 
 use crate::mark::Mark;
 
@@ -11,24 +11,6 @@ pub(crate) fn gained(set: bool, worth: u16) -> u16
     ensures { result ≡ (if set then worth else 0) }
 {
     if set { worth } else { 0 }
-}
-
-fn is_on(mark: Mark) -> bool
-    ensures { result ≡ is_on mark }
-{
-    match mark {
-        Mark::On => true,
-        _ => false,
-    }
-}
-
-fn in_doubt(mark: Mark) -> bool
-    ensures { result ≡ in_doubt mark }
-{
-    match mark {
-        Mark::Doubt => true,
-        _ => false,
-    }
 }
 
 pub trait Reading {
@@ -57,8 +39,8 @@ pub trait Reading {
         let mut worth: u16 = 1;
         for i in 0..names.len().min(MOST) {
             let mark = self.mark(code, names[i]);
-            on += gained(is_on(mark), worth);
-            doubt += gained(in_doubt(mark), worth);
+            on += gained(mark == Mark::On, worth);
+            doubt += gained(mark == Mark::Doubt, worth);
             worth *= 2;
         }
         (on as u8, doubt as u8)

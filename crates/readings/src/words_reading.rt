@@ -1,39 +1,19 @@
 // Making a words reading, and asking it.
-ghost use Rattle.std.specs.Prelude.{◌≡◌, length};
-ghost use Rattle.rules.specs.First.{answer};
-ghost use Rattle.readings.specs.Listed.{lent, spellings, refused_names, kept_by};
+ghost use Rattle.std.specs.Prelude.{refl};
+ghost use Rattle.readings.specs.Listed.{spellings};
 ghost use Rattle.readings.specs.Words.{words_meaning};
 ghost use Rattle.std.proofs.Common.{arith, rules};
 ghost use Rattle.readings.specs.Finding.{spellings_length, found_within};
 
 use crate::listed::NameList;
 use crate::mark::Mark;
+use crate::named::Named;
 use crate::reading::Reading;
-use crate::words::Words;
+use crate::words::{NAMES, Words};
 use rules::Fault;
 
-// The most names, and the number of codes.
-const NAMES: usize = 32;
-
+// The number of codes.
 const CODES: u32 = 256;
-
-impl Words {
-    // How many names there are, or why the list is refused.
-    pub fn check(names: &[&[u8]]) -> Result<usize, Fault>
-        ensures { result ≡ answer (refused_names 32 (lent names.now)) (length names.now) }
-    {
-        NameList::check(names, NAMES)
-    }
-
-    // The reading with these names; with none where the check refuses them.
-    pub fn new(names: &[&[u8]]) -> Words
-        ensures { spellings result.list ≡ kept_by (refused_names 32 (lent names.now)) (lent names.now) }
-    {
-        Words {
-            list: NameList::new(names, NAMES),
-        }
-    }
-}
 
 impl Reading for Words {
     ghost meaning = { words_meaning };
@@ -57,6 +37,26 @@ impl Reading for Words {
             Mark::On
         } else {
             Mark::Off
+        }
+    }
+}
+
+impl Named for Words {
+    ghost most = { 32 };
+
+    ghost listed = { λ w. spellings w.list };
+
+    ghost finds_listed = { λ _ _. refl };
+
+    ghost counts_listed = { λ _. refl };
+
+    fn check(names: &[&[u8]]) -> Result<usize, Fault> {
+        NameList::<NAMES>::check(names)
+    }
+
+    fn new(names: &[&[u8]]) -> Words {
+        Words {
+            list: NameList::new(names),
         }
     }
 }

@@ -4,7 +4,7 @@ use Rattle.rules.specs.Names.{spelled}
 use Rattle.readings.proofs.listed.NameList.push.Goals as goal
 
 pub returns : goal.returns
-returns c =
+returns g c =
     let l = c.args.self.now in
     let h : l.count < length l.names = search rules in
     record { names = ap (λ xs. mathlib.Core.List.map spelled xs) (take_more_set l.names l.count c.args.name h) ∙ map_push spelled _ c.args.name; count = refl }
