@@ -1,12 +1,12 @@
 -- The values of a trace, letter by letter and row by row. Assumes nothing.
-use Rattle.std.proofs.Common.{◌≡◌, ℕ, ◌+◌, ◌*◌, ◌/◌, ◌%◌, ◌^◌, ◌<◌, ◌≤◌, Bool, true, false, cond, ◌||◌, eqb, ltb, List, [], ◌∷◌, ◌++◌, length, get_or, take, drop, set, Some, None, Ok, Err, Option, sym, refl, ap, ◌∙◌, subst, ap₂, suc-mul, zero-mul, arith}
+use Rattle.std.proofs.Common.{◌≡◌, ℕ, ◌+◌, ◌*◌, ◌/◌, ◌%◌, ◌^◌, ◌<◌, ◌≤◌, Bool, cond, eqb, ltb, List, [], ◌∷◌, ◌++◌, length, get_or, take, drop, set, Some, None, Ok, Err, Option, sym, refl, ap, ◌∙◌, subst, ap₂, suc-mul, zero-mul, arith}
 use borrow.Rule.Slice.PartMut.{put_mid}
 use Rattle.std.proofs.lemmas.List.{append-nil, append_assoc, drop-drop, length-append, length-map, length-take-le, map_more, take_all, take_more, take_more_set}
 use Rattle.std.proofs.lemmas.Slice.{take-put_mid, drop-put_mid}
 use Rattle.std.proofs.lemmas.Bool.{cond-true, cond-false, lt-ltb, le-ltb}
 use Rattle.rules.specs.First.{answer, first}
 use Rattle.rules.specs.declared.fault.Fault.{Fault}
-use Rattle.rules.specs.declared.fault.Fault.TheVariants.{ManyEvents, ShortBuffer, HighCode, InDoubt}
+use Rattle.rules.specs.declared.fault.Fault.TheVariants.{ManyEvents, ShortBuffer}
 use Rattle.readings.specs.Meaning.{Meaning, mark_of, is_on, in_doubt, on_set, doubt_set}
 use Rattle.readings.specs.declared.mark.Mark.{Mark}
 use Rattle.readings.specs.declared.mark.Mark.TheVariants.{Off, On, Doubt}
@@ -17,17 +17,6 @@ use Rattle.verdicts.specs.Valuation.{worth_of, row_of, laid, Laid, unlaid, wrong
 -- lists that agree past m agree past m + k
 past_more : {V : Type 0} (m k n : ℕ) (xs ys : List V) → n ≡ m + k → drop m xs ≡ drop m ys → drop n xs ≡ drop n ys
 past_more m k n xs ys e same = ap (λ i. drop i xs) e ∙ sym (drop-drop k m xs) ∙ ap (drop k) same ∙ drop-drop k m ys ∙ ap (λ i. drop i ys) (sym e)
-
--- what is wrong with an event
-module _ (m : Meaning) (takes : Bool) (ns cs : List ℕ) (i : ℕ) where
-  pub high_code : m.codes ≤ get_or cs i 0 → wrong_event m takes ns cs i ≡ Some (HighCode (i + 1))
-  high_code h = cond-false (ltb (get_or cs i 0) m.codes) _ _ (le-ltb (get_or cs i 0) m.codes h)
-
-  pub in_doubt_lem : get_or cs i 0 < m.codes → (takes || eqb (doubt_set m (get_or cs i 0) ns) 0) ≡ false → wrong_event m takes ns cs i ≡ Some (InDoubt (i + 1))
-  in_doubt_lem h e = cond-true (ltb (get_or cs i 0) m.codes) _ _ (lt-ltb (get_or cs i 0) m.codes h) ∙ cond-false (takes || eqb (doubt_set m (get_or cs i 0) ns) 0) _ _ e
-
-  pub nothing_wrong : get_or cs i 0 < m.codes → (takes || eqb (doubt_set m (get_or cs i 0) ns) 0) ≡ true → wrong_event m takes ns cs i ≡ None
-  nothing_wrong h e = cond-true (ltb (get_or cs i 0) m.codes) _ _ (lt-ltb (get_or cs i 0) m.codes h) ∙ cond-true (takes || eqb (doubt_set m (get_or cs i 0) ns) 0) _ _ e
 
 module _ {V : Type 0} (o : Ops V) (d : V) where
   -- a mark is never both on and in doubt
@@ -104,10 +93,11 @@ module _ (m : Meaning) (takes : Bool) (ns cs : List ℕ) (room : ℕ) where
   by_event few h = cond-false (ltb 4095 (length cs)) _ _ (le-ltb 4095 (length cs) few) ∙ cond-false (ltb room (length cs * length ns)) _ _ (le-ltb room (length cs * length ns) h)
 
 -- what an answer tells of its refusal
-pub answered_err : (f : Option Fault) (y : Fault) → answer f (tt {0}) ≡ Err y → f ≡ Some y
-answered_err None y e = let z : ◌≡◌ {A = ℕ} 0 1 = cc in absurd (omega arith)
-answered_err (Some x) y e = cc
+module _ {V : Type 0} where
+  pub answered_err : (f : Option Fault) (v : V) (y : Fault) → answer f v ≡ Err y → f ≡ Some y
+  answered_err None v y e = cc
+  answered_err (Some x) v y e = cc
 
-pub answered_ok : (f : Option Fault) (v : Unit {0}) → answer f (tt {0}) ≡ Ok v → f ≡ None
-answered_ok None v e = refl
-answered_ok (Some x) v e = let z : ◌≡◌ {A = ℕ} 0 1 = cc in absurd (omega arith)
+  pub answered_ok : (f : Option Fault) (v w : V) → answer f v ≡ Ok w → f ≡ None
+  answered_ok None v w e = refl
+  answered_ok (Some x) v w e = cc

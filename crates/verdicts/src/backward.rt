@@ -7,11 +7,10 @@ ghost use Rattle.rules.specs.First.{Left, answer};
 ghost use Rattle.verdicts.specs.Outcome.{Filled, recorded, refused};
 ghost use Rattle.verdicts.specs.Step.{Ordered, Lettered, Ended, Rowed, at};
 
+use crate::events::MOST_EVENTS;
 use crate::scale::Scale;
 use crate::step::{node_end, node_row};
 use rules::{Fault, Node, Rule};
-
-const MOST_EVENTS: usize = 4095;
 
 // Copies the first m values to the next m.
 fn keep<S: Scale>(m: usize, scratch: &mut [S])

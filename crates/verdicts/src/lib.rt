@@ -2,12 +2,14 @@
 #![tactic(auto)]
 
 mod backward;
+mod events;
 mod scale;
 mod step;
 mod three_way;
 mod valuation;
 
 pub use backward::evaluate;
+pub use events::{MOST_EVENTS, admitted, check_events};
 pub use scale::{Scale, YesNo};
 pub use three_way::ThreeWay;
-pub use valuation::{check_events, valuate};
+pub use valuation::valuate;

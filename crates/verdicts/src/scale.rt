@@ -1,5 +1,6 @@
 // A scale of verdicts, and the scale of two.
 ghost use Rattle.std.specs.Prelude.{◌≡◌, Bool, false};
+ghost use Rattle.verdicts.specs.Meaning.{constant};
 ghost use Rattle.verdicts.specs.Scale.{Ops, Laws};
 ghost use Rattle.verdicts.specs.YesNo.{yes_no};
 ghost use Rattle.verdicts.specs.declared.scale.YesNo.TheVariants.{Broken};
@@ -10,15 +11,11 @@ pub trait Scale: Copy {
     ghost ops: { Ops Self };
 
     // Whether a letter may be in doubt, and the value of one that is. Where none may be, that is the bottom.
-    ghost takes: { Bool };
-
-    ghost doubtful: { Self };
-
     const TAKES_DOUBT: bool;
 
-    // The constant: no contract can name it.
-    fn doubt_is_taken() -> bool
-        ensures { result ≡ takes };
+    ghost TAKES_DOUBT: { Bool };
+
+    ghost doubtful: { Self };
 
     fn doubt() -> Self
         ensures { result ≡ doubtful };
@@ -40,63 +37,61 @@ pub trait Scale: Copy {
 
     ghost lattice: { Laws ops };
 
-    ghost doubtless: { takes ≡ false → doubtful ≡ ops.bottom };
+    ghost doubtless: { TAKES_DOUBT ≡ false → doubtful ≡ ops.bottom };
 }
 
-// Whether a rule is kept.
-#[derive(Clone, Copy, PartialEq, Eq, Debug)]
+// Whether a rule is kept. In rising order.
+#[derive(Clone, Copy, PartialEq, Eq, PartialOrd, Ord, Debug)]
 pub enum YesNo {
     Broken,
     Kept,
 }
 
+impl From<bool> for YesNo {
+    ghost from_gives = { λ kept v. v ≡ constant yes_no kept };
+
+    fn from(kept: bool) -> Self {
+        if kept { Self::Kept } else { Self::Broken }
+    }
+}
+
 impl Scale for YesNo {
     ghost ops = { yes_no };
 
-    ghost takes = { false };
+    const TAKES_DOUBT: bool = false;
+
+    ghost TAKES_DOUBT = { false };
 
     ghost doubtful = { Broken };
-
-    const TAKES_DOUBT: bool = false;
 
     ghost lattice = { Prim.search rules };
 
     ghost doubtless = { Prim.search rules };
-
-    fn doubt_is_taken() -> bool {
-        Self::TAKES_DOUBT
-    }
 
     fn doubt() -> Self {
         Self::bottom()
     }
 
     fn bottom() -> Self {
-        Self::Broken
+        Self::from(false)
     }
 
     fn top() -> Self {
-        Self::Kept
+        Self::from(true)
     }
 
     fn meet(self, other: Self) -> Self {
-        match self {
-            YesNo::Broken => YesNo::Broken,
-            YesNo::Kept => other,
-        }
+        self.min(other)
     }
 
     fn join(self, other: Self) -> Self {
-        match self {
-            YesNo::Broken => other,
-            YesNo::Kept => YesNo::Kept,
-        }
+        self.max(other)
     }
 
     fn negate(self) -> Self {
         match self {
-            YesNo::Broken => YesNo::Kept,
-            YesNo::Kept => YesNo::Broken,
+            Self::Broken => Self::Kept,
+            Self::Kept => Self::Broken,
         }
     }
 }

@@ -7,75 +7,71 @@ ghost use Rattle.std.proofs.Common.{rules};
 use crate::scale::{Scale, YesNo};
 
 // Whether a rule is kept, where that can be told. In rising order.
-#[derive(Clone, Copy, PartialEq, Eq, Debug)]
+#[derive(Clone, Copy, PartialEq, Eq, PartialOrd, Ord, Debug)]
 pub enum ThreeWay {
     Broken,
     Unclear,
     Kept,
 }
 
+// The same verdict on the scale of three.
+impl From<YesNo> for ThreeWay {
+    ghost from_gives = { λ x y. y ≡ in_three x };
+
+    fn from(verdict: YesNo) -> Self {
+        match verdict {
+            YesNo::Broken => Self::Broken,
+            YesNo::Kept => Self::Kept,
+        }
+    }
+}
+
 impl YesNo {
-    // The same verdict on the scale of three.
     pub fn three_way(self) -> ThreeWay
         ensures { result ≡ in_three self }
     {
-        match self {
-            YesNo::Broken => ThreeWay::Broken,
-            YesNo::Kept => ThreeWay::Kept,
-        }
+        self.into()
     }
 }
 
 impl Scale for ThreeWay {
     ghost ops = { three_way };
 
-    ghost takes = { true };
+    const TAKES_DOUBT: bool = true;
+
+    ghost TAKES_DOUBT = { true };
 
     ghost doubtful = { Unclear };
-
-    const TAKES_DOUBT: bool = true;
 
     ghost lattice = { Prim.search rules };
 
     ghost doubtless = { Prim.search rules };
 
-    fn doubt_is_taken() -> bool {
-        ThreeWay::TAKES_DOUBT
+    fn doubt() -> Self {
+        Self::Unclear
     }
 
-    fn doubt() -> ThreeWay {
-        ThreeWay::Unclear
+    fn bottom() -> Self {
+        Self::Broken
     }
 
-    fn bottom() -> ThreeWay {
-        ThreeWay::Broken
+    fn top() -> Self {
+        Self::Kept
     }
 
-    fn top() -> ThreeWay {
-        ThreeWay::Kept
+    fn meet(self, other: Self) -> Self {
+        self.min(other)
     }
 
-    fn meet(self, other: ThreeWay) -> ThreeWay {
-        match (self, other) {
-            (ThreeWay::Broken, _) | (_, ThreeWay::Broken) => ThreeWay::Broken,
-            (ThreeWay::Kept, ThreeWay::Kept) => ThreeWay::Kept,
-            _ => ThreeWay::Unclear,
-        }
+    fn join(self, other: Self) -> Self {
+        self.max(other)
     }
 
-    fn join(self, other: ThreeWay) -> ThreeWay {
-        match (self, other) {
-            (ThreeWay::Kept, _) | (_, ThreeWay::Kept) => ThreeWay::Kept,
-            (ThreeWay::Broken, ThreeWay::Broken) => ThreeWay::Broken,
-            _ => ThreeWay::Unclear,
-        }
-    }
-
-    fn negate(self) -> ThreeWay {
+    fn negate(self) -> Self {
         match self {
-            ThreeWay::Broken => ThreeWay::Kept,
-            ThreeWay::Unclear => ThreeWay::Unclear,
-            ThreeWay::Kept => ThreeWay::Broken,
+            Self::Broken => Self::Kept,
+            Self::Unclear => Self::Unclear,
+            Self::Kept => Self::Broken,
         }
     }
 }

@@ -1,41 +1,13 @@
 // The values of a bound rule's letters, event by event.
-ghost use Rattle.std.specs.Prelude.{◌≡◌, ◌*◌, ◌/◌, ◌%◌, ◌^◌, ◌<◌, ◌≤◌, ◌||◌, length, if◌then◌else◌, ◌==◌};
-ghost use Rattle.rules.specs.First.{answer, Left, first};
+ghost use Rattle.std.specs.Prelude.{◌≡◌, ◌*◌, ◌/◌, ◌%◌, ◌^◌, ◌<◌, ◌≤◌, length, if◌then◌else◌, ◌==◌};
+ghost use Rattle.rules.specs.First.{answer, Left};
 ghost use Rattle.readings.specs.Binding.{numbers_of};
-ghost use Rattle.verdicts.specs.Valuation.{unlaid, laid, row_of, Laid, wrong_event};
+ghost use Rattle.verdicts.specs.Valuation.{unlaid, laid, row_of, Laid};
 
+use crate::events::{MOST_EVENTS, check_events};
 use crate::scale::Scale;
 use readings::{BoundRule, Reading};
 use rules::Fault;
-
-const MOST_EVENTS: usize = 4095;
-
-// Whether the letters of this set may be in doubt.
-fn may_doubt<S: Scale>(set: u8) -> bool
-    ensures { result ≡ (S.takes || set == 0) }
-{
-    S::doubt_is_taken() || set == 0
-}
-
-// The first event that is refused. Events count from 1.
-pub fn check_events<S: Scale, R: Reading>(
-    reading: &R,
-    numbers: &[u8],
-    trace: &[u32],
-) -> Result<(), Fault>
-    ensures { result ≡ answer (first (length trace.now) (wrong_event (R.meaning reading.now) S.takes numbers.now trace.now)) tt }
-{
-    for i in 0..trace.len() {
-        if trace[i] >= reading.codes() {
-            return Err(Fault::HighCode(i + 1));
-        }
-        let (_, doubt) = reading.show(trace[i], numbers);
-        if !may_doubt::<S>(doubt) {
-            return Err(Fault::InDoubt(i + 1));
-        }
-    }
-    Ok(())
-}
 
 // Whether place `i` of a set is in it.
 fn has(set: u8, i: usize) -> bool
@@ -90,8 +62,8 @@ pub fn valuate<S: Scale, R: Reading>(
     trace: &[u32],
     out: &mut [S],
 ) -> Result<(), Fault>
-    ensures answers { result ≡ answer (unlaid (R.meaning bound.now.reading) S.takes (numbers_of bound.now) trace.now (length out.old)) tt }
-    ensures leaves { Left (unlaid (R.meaning bound.now.reading) S.takes (numbers_of bound.now) trace.now (length out.old)) (out.new ≡ out.old) (Laid (laid S.ops S.doubtful (R.meaning bound.now.reading) (numbers_of bound.now) trace.now) out.old out.new) }
+    ensures answers { result ≡ answer (unlaid (R.meaning bound.now.reading) S.TAKES_DOUBT (numbers_of bound.now) trace.now (length out.old)) tt }
+    ensures leaves { Left (unlaid (R.meaning bound.now.reading) S.TAKES_DOUBT (numbers_of bound.now) trace.now (length out.old)) (out.new ≡ out.old) (Laid (laid S.ops S.doubtful (R.meaning bound.now.reading) (numbers_of bound.now) trace.now) out.old out.new) }
 {
     let numbers = bound.numbers();
     let k = numbers.len();
