@@ -19,9 +19,7 @@ use crate::standing::Standing;
 use progression::{MOST_OBLIGATIONS, Plan};
 use readings::{BoundRule, Reading};
 use rules::Fault;
-
-// The most events.
-const EVENTS: usize = 4095;
+use verdicts::{MOST_EVENTS, YesNo};
 
 #[derive(Drop)]
 pub struct Monitor<R: Reading> {
@@ -133,15 +131,9 @@ fn admitted<R: Reading>(reading: &R, setup: &Setup, count: usize, code: u32) -> 
     requires { count ≤ 4095 }
     ensures { MatchResult result (λ on. (event_refusal (subject (R.meaning reading.now) setup.now) count code ≡ None) × (on ≡ on_set (R.meaning reading.now) code (subject (R.meaning reading.now) setup.now).numbers) × (count < 4095)) (λ f. event_refusal (subject (R.meaning reading.now) setup.now) count code ≡ Some f) }
 {
-    if count >= EVENTS {
+    if count >= MOST_EVENTS {
         return Err(Fault::ManyEvents);
     }
-    if code >= reading.codes() {
-        return Err(Fault::HighCode(count + 1));
-    }
-    let (on, doubt) = reading.show(code, setup.letters());
-    if doubt != 0 {
-        return Err(Fault::InDoubt(count + 1));
-    }
+    let (on, _) = verdicts::admitted::<YesNo, R>(reading, setup.letters(), count + 1, code)?;
     Ok(on)
 }

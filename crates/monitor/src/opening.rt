@@ -2,8 +2,6 @@
 ghost use Rattle.std.specs.Prelude.{◌≡◌, ℕ, ◌<◌, length, take, Decides};
 ghost use Rattle.rules.specs.Rules.{letter_count};
 ghost use Rattle.readings.specs.Meaning.{Possible};
-ghost use Rattle.verdicts.specs.Meaning.{constant};
-ghost use Rattle.verdicts.specs.YesNo.{yes_no};
 ghost use Rattle.polynomials.specs.Held.{vectors};
 ghost use Rattle.monitor.specs.Standings.{TellsAt};
 
@@ -28,12 +26,6 @@ pub(crate) fn possible_sets<R: Reading>(reading: &R, names: &[u8]) -> VectorSet
         }
     }
     sets
-}
-
-fn verdict_of(kept: bool) -> YesNo
-    ensures { result ≡ constant yes_no kept }
-{
-    if kept { YesNo::Kept } else { YesNo::Broken }
 }
 
 impl Setup {
@@ -74,7 +66,7 @@ impl Setup {
         let kept = table.has(self.start);
         let settled = for_good(table, kept, self.reachable);
         Standing {
-            verdict: verdict_of(kept),
+            verdict: YesNo::from(kept),
             finality: Finality::from(settled),
             count: now.count,
             residual: now.residual,

@@ -7,14 +7,8 @@ ghost use Rattle.progression.specs.Progress.{letters_in};
 ghost use Rattle.progression.specs.Tables.{bools};
 
 use polynomials::{Residual, VectorSet};
+use readings::has;
 use rules::{Binary, Node, Unary};
-
-// Whether letter l is in the set.
-fn is_on(letters: u8, l: u8) -> bool
-    ensures { result ≡ letters_in letters l }
-{
-    l < 8 && (letters >> l) & 1 == 1
-}
 
 // A function and no `From`: neither type is this crate's.
 fn constant(v: bool) -> VectorSet
@@ -73,7 +67,7 @@ pub(crate) fn node_table(
     ensures { (v : ℕ) → v < 256 → vectors result v ≡ step_row bools (letters_in letters) (λ a. vectors_of tables.now a v) (λ a. in_set (slice_index numbers.now a) v) (in_set (slice_index numbers.now j) v) node }
 {
     match node {
-        Node::Letter(l) => constant(is_on(letters, l)),
+        Node::Letter(l) => constant(has(letters, l as usize)),
         Node::Truth(v) => constant(v),
         Node::Before(op, a) => unary(
             op,
