@@ -7,7 +7,7 @@ use readings::{BoundRule, Reading};
 use rules::Fault;
 
 // Opens a monitor on a bound rule, makes every call on it, and closes it. The answer to each call is written down as far as there
-// is room.
+// is room, by index: what `get_mut` lends leaves the others unknown afterwards.
 pub fn replay<R: Reading + Drop>(
     bound: BoundRule<R>,
     calls: &[Call],

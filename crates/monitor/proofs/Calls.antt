@@ -26,9 +26,6 @@ module _ (b : Subject) where
   decided_as : (s t : Setup) → t ≡ s → Decided b s → Decided b t
   decided_as s t e = subst (Decided b) (sym e)
 
-  pub open_stands : (i : Inner) → Decided b i.setup → i.now.count ≡ 0 → StandsFor i.now.residual (residual_of b []) → i.marks.set ≡ 0 → Stands b opened i
-  open_stands i d n r s = record { possible = d; count = n; residual = r; set = s; marks = tt }
-
   -- a standing asked for as a call
   pub standing_serves : (i : Inner) (s : Standing) → Says b i s → Serves b Call.Standing i i (Ok s)
   standing_serves i s says = serves_ok b Call.Standing i i s refl (λ h st. (refl, st, says h st))

@@ -23,7 +23,7 @@ module _ (P : ℕ → Type 0) (n : ℕ) (f g : ℕ → Bool) (old : Gathered P n
   gathered_not none is = (
     λ k h. ⊎_elim
         (λ (e : n ≡ k). (
-          (λ t. absurd (let z : false ≡ true = sym (old.1 k (omega arith)) ∙ sym (is k) ∙ t in let y : ◌≡◌ {A = ℕ} 0 1 = cc in omega arith)),
+          (λ t. let z : false ≡ true = sym (old.1 k (omega arith)) ∙ sym (is k) ∙ t in cc),
           (λ p. absurd (none (subst P (sym e) p))),
         ))
         (λ (ne : n ≡ k → ⊥). subst (λ (x : Bool). Decides x (P k)) (sym (is k)) (old.0 k (omega arith)))

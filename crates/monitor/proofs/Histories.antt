@@ -2,13 +2,14 @@
 use Rattle.std.proofs.Common.{◌≡◌, ℕ, ◌+◌, ◌<◌, ◌≤◌, ◌≢◌, List, [], ◌∷◌, ◌++◌, length, get_or, take, set, Some, None, Ok, Err, Option, sym, refl, ap, ◌∙◌, subst, arith}
 use mathlib.Core.HLevel.{is_prop→PathP}
 use native.Mathlib.Bridge.{le_prop}
-use Rattle.std.proofs.lemmas.List.{take_more, take-append-le, take-take, get_or-set_other}
+use Rattle.std.proofs.lemmas.List.{take_more, take-append-le, take-take, get_or-set_other, map_push}
 use Rattle.rules.specs.declared.fault.Fault.{Fault}
 use Rattle.readings.specs.Meaning.{on_set}
 use Rattle.verdicts.specs.Case.{Subject}
 use Rattle.polynomials.specs.Polynomial.{Polynomial, substitute}
-use Rattle.progression.specs.Progress.{carry, change, fresh}
+use Rattle.progression.specs.Progress.{change, residual}
 use Rattle.progression.specs.Tables.{StandsFor}
+use Rattle.progression.proofs.Exact.{residual_more}
 use Rattle.monitor.specs.Monitored.{shown_by, residual_of}
 use Rattle.monitor.specs.History.{History, refusal, done, unless_refused, after, played, told_of}
 use Rattle.monitor.specs.Standings.{Tells, Answers}
@@ -19,13 +20,9 @@ use Rattle.monitor.specs.declared.point.Point.{Point}
 use Rattle.monitor.specs.declared.standing.Standing.{Standing}
 
 module _ (b : Subject) where
-  carry_push : (R : Polynomial) (cs : List ℕ) (c : ℕ) → carry b.rule R (shown_by b (cs ++ c ∷ [])) ≡ substitute (carry b.rule R (shown_by b cs)) (change b.rule (on_set b.meaning c b.numbers))
-  carry_push R [] c = refl
-  carry_push R (x ∷ cs) c = carry_push (substitute R (change b.rule (on_set b.meaning x b.numbers))) cs c
-
   -- the residual after one event more
   pub residual_push : (cs : List ℕ) (c : ℕ) → residual_of b (cs ++ c ∷ []) ≡ substitute (residual_of b cs) (change b.rule (on_set b.meaning c b.numbers))
-  residual_push cs c = carry_push (fresh b.rule) cs c
+  residual_push cs c = ap (residual b.rule) (map_push (λ k. on_set b.meaning k b.numbers) cs c) ∙ residual_more b.rule (shown_by b cs) (on_set b.meaning c b.numbers)
 
   -- a call that is not refused
   pub serves_ok : (call : Call) (old new : Inner) (s : Standing) → new.setup ≡ old.setup →
@@ -36,7 +33,7 @@ module _ (b : Subject) where
     answers = λ k st.
         let P : Option Fault → Type 0 = λ o. Answers o (Tells b (told_of k call)) (Ok s) in
         subst P (sym (h k st).0) (s, refl, (h k st).2);
-    kept = λ f e. absurd (let z : ◌≡◌ {A = ℕ} 0 1 = cc in omega arith);
+    kept = λ f e. cc;
   }
 
   -- a call that is refused

@@ -72,7 +72,7 @@ impl<R: Reading> Monitor<R> {
         ensures { ServesCall R.meaning (Call.Event code) self.old self.new result }
     {
         let now = self.inner.now;
-        let letters = admitted(&self.reading, &self.inner.setup, now.count, code)?;
+        let letters = admitted(&self.reading, &self.inner.setup, now, code)?;
         self.inner.now = Point {
             count: now.count + 1,
             residual: self.inner.setup.plan.after(now.residual, letters),
@@ -85,11 +85,11 @@ impl<R: Reading> Monitor<R> {
         ensures same { self.new ≡ self.old }
         ensures serves { ServesCall R.meaning (Call.LookAhead code) self.old self.new result }
     {
-        let count = self.inner.now.count;
+        let now = self.inner.now;
         let (letters, _) = self.reading.show(code, self.inner.setup.letters());
         let guard = Ahead::new(&mut self.inner.now.residual, &self.inner.setup, letters);
-        admitted(&self.reading, &self.inner.setup, count, code)?;
-        Ok(guard.standing(&self.inner.setup, count + 1))
+        admitted(&self.reading, &self.inner.setup, now, code)?;
+        Ok(guard.standing(&self.inner.setup, now.count + 1))
     }
 
     // Sets a mark at the events that stand.
@@ -126,14 +126,13 @@ impl<R: Reading> Monitor<R> {
     }
 }
 
-// The letters that are on at the code of an event that comes after `count` others.
-fn admitted<R: Reading>(reading: &R, setup: &Setup, count: usize, code: u32) -> Result<u8, Fault>
-    requires { count ≤ 4095 }
-    ensures { MatchResult result (λ on. (event_refusal (subject (R.meaning reading.now) setup.now) count code ≡ None) × (on ≡ on_set (R.meaning reading.now) code (subject (R.meaning reading.now) setup.now).numbers) × (count < 4095)) (λ f. event_refusal (subject (R.meaning reading.now) setup.now) count code ≡ Some f) }
+// The letters that are on at the code of an event that comes at this point.
+fn admitted<R: Reading>(reading: &R, setup: &Setup, now: Point, code: u32) -> Result<u8, Fault>
+    ensures { MatchResult result (λ on. (event_refusal (subject (R.meaning reading.now) setup.now) now.count code ≡ None) × (on ≡ on_set (R.meaning reading.now) code (subject (R.meaning reading.now) setup.now).numbers) × (now.count < 4095)) (λ f. event_refusal (subject (R.meaning reading.now) setup.now) now.count code ≡ Some f) }
 {
-    if count >= MOST_EVENTS {
+    if now.count >= MOST_EVENTS {
         return Err(Fault::ManyEvents);
     }
-    let (on, _) = verdicts::admitted::<YesNo, R>(reading, setup.letters(), count + 1, code)?;
+    let (on, _) = verdicts::admitted::<YesNo, R>(reading, setup.letters(), now.count + 1, code)?;
     Ok(on)
 }

@@ -4,7 +4,7 @@ ghost use Rattle.rules.specs.Rules.{node_count};
 ghost use Rattle.polynomials.specs.Held.{vectors};
 ghost use Rattle.polynomials.specs.Polynomial.{Polynomial, value, substitute};
 ghost use Rattle.progression.specs.Progress.{change};
-ghost use Rattle.progression.specs.Tables.{StandsFor, Tabled, Changes};
+ghost use Rattle.progression.specs.Tables.{TruthTable, StandsFor, Tabled, Changes};
 
 use crate::operators::node_table;
 use crate::plan::Plan;
@@ -28,7 +28,7 @@ impl Plan {
     fn change(&self, letters: u8, tables: &[VectorSet; 64], i: usize) -> VectorSet
         requires i_bound { i < 8 }
         requires tabled { Tabled self.now.rule letters (node_count self.now.rule) tables.now }
-        ensures { (v : ℕ) → v < 256 → vectors result v ≡ value (change self.now.rule letters i) v }
+        ensures { TruthTable result (value (change self.now.rule letters i)) }
     {
         self.place(i).map_or(VectorSet::empty(), |j| tables[j])
     }
