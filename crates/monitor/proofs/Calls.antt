@@ -64,11 +64,6 @@ module _ (b : Subject) where
       } in
       (ap (λ t. cond t (Some NinthMark) None) (lt-leb 8 (length h.marks) few), stands, says (done h Call.Mark) stands))
 
-  pub mark_refused : (old new : Inner) (f : Fault) → new ≡ old → f ≡ NinthMark → 8 ≤ old.marks.set → Serves b Call.Mark old new (Err f)
-  mark_refused old new f same is full = serves_err b Call.Mark old new f same (λ h st.
-      let all : 8 ≤ length h.marks = omega (arith, st.set) in
-      ap (λ t. cond t (Some NinthMark) None) (le-leb 8 (length h.marks) all) ∙ ap Some (sym is))
-
   -- the newest mark is there where one is set
   pub keep_serves : (old new : Inner) (s : Standing) → new.setup ≡ old.setup → new.now ≡ old.now → 0 < old.marks.set → new.marks.set ≡ old.marks.set - 1 → new.marks.table ≡ old.marks.table →
       Says b new s → Serves b Call.Keep old new (Ok s)
@@ -91,19 +86,6 @@ module _ (b : Subject) where
             marks = subst Q (sym (ap older e)) (subst P (sym nm) below);
           } in
           (ap unmarked e, stands, says (done h Call.Keep) stands)
-
-  none_refused : (call : Call) (old new : Inner) (f : Fault) → ((h : History) → refusal b h call ≡ unmarked h.marks) → new ≡ old → f ≡ NoMark → old.marks.set ≡ 0 → Serves b call old new (Err f)
-  none_refused call old new f is same fault none = serves_err b call old new f same (λ h st. is h ∙ go h.marks (omega (arith, st.set)) ∙ ap Some (sym fault))
-    where
-      go : (ks : List ℕ) → length ks ≡ 0 → unmarked ks ≡ Some NoMark
-      go [] e = refl
-      go (k ∷ ks) e = absurd (omega arith)
-
-  pub keep_refused : (old new : Inner) (f : Fault) → new ≡ old → f ≡ NoMark → old.marks.set ≡ 0 → Serves b Call.Keep old new (Err f)
-  keep_refused old new f = none_refused Call.Keep old new f (λ h. refl)
-
-  pub back_refused : (old new : Inner) (f : Fault) → new ≡ old → f ≡ NoMark → old.marks.set ≡ 0 → Serves b Call.Back old new (Err f)
-  back_refused old new f = none_refused Call.Back old new f (λ h. refl)
 
   pub back_serves : (old new : Inner) (s : Standing) → new.setup ≡ old.setup → 0 < old.marks.set → new.marks.set ≡ old.marks.set - 1 → new.marks.table ≡ old.marks.table →
       ((d : Point) → get_or old.marks.table new.marks.set d ≡ new.now) → Says b new s → Serves b Call.Back old new (Ok s)
@@ -161,9 +143,6 @@ module _ (b : Subject) where
         marks = subst P (sym nm) higher;
       } in
       (counted h old c None free st, stands, says (done h (Call.Event c)) stands))
-
-  pub event_refused : (old new : Inner) (f : Fault) (c : ℕ) → event_refusal b old.now.count c ≡ Some f → new ≡ old → Serves b (Call.Event c) old new (Err f)
-  event_refused old new f c meets same = serves_err b (Call.Event c) old new f same (λ h st. counted h old c (Some f) meets st)
 
   pub look_serves : (old new : Inner) (ahead : Residual) (n : ℕ) (s : Standing) (c : ℕ) → event_refusal b old.now.count c ≡ None → new ≡ old → Steps old.now.residual ahead c → n ≡ old.now.count + 1 →
       ((cs : List ℕ) → Decided b old.setup → StandsFor ahead (residual_of b cs) → n ≡ length cs → Tells b cs s) → Serves b (Call.LookAhead c) old new (Ok s)

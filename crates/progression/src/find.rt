@@ -3,7 +3,7 @@ ghost use Rattle.std.specs.Prelude.{◌≡◌, ◌+◌, ◌<◌, ◌||◌, lengt
 ghost use Rattle.rules.specs.Tree.{node_at};
 ghost use Rattle.progression.specs.Obligations.{unary_lasts, binary_lasts, unary_looks, lasts as lasting, looks_at, any_below};
 
-use crate::plan::{MOST_OBLIGATIONS, Plan};
+use crate::plan::{MOST_NODES, MOST_OBLIGATIONS, Plan};
 use rules::{Binary, Node, Rule, Unary};
 
 // Whether a node's value at an event takes in its own value after the event.
@@ -51,7 +51,7 @@ impl Plan {
     pub fn new(rule: Rule) -> Plan
         ensures { result.rule ≡ rule }
     {
-        let mut numbers = [0; 64];
+        let mut numbers = [0; MOST_NODES];
         let mut places = [0; MOST_OBLIGATIONS];
         let mut count = 0;
         let nodes = rule.nodes();

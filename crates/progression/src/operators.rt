@@ -6,6 +6,7 @@ ghost use Rattle.polynomials.specs.Sets.{in_set};
 ghost use Rattle.progression.specs.Progress.{letters_in};
 ghost use Rattle.progression.specs.Tables.{bools, TruthTable};
 
+use crate::plan::MOST_NODES;
 use polynomials::{Residual, VectorSet};
 use readings::has;
 use rules::{Binary, Node, Unary};
@@ -58,8 +59,8 @@ fn binary(op: Binary, x: VectorSet, y: VectorSet, own: VectorSet) -> VectorSet
 pub(crate) fn node_table(
     node: Node,
     j: usize,
-    numbers: &[u8; 64],
-    tables: &[VectorSet; 64],
+    numbers: &[u8; MOST_NODES],
+    tables: &[VectorSet; MOST_NODES],
     letters: u8,
 ) -> VectorSet
     requires j_bound { j < 64 }

@@ -9,16 +9,19 @@ ghost use Rattle.progression.specs.Obligations.{node_of, obligations, place};
 ghost use Rattle.progression.specs.Progress.{at_end, fresh as fresh_of};
 ghost use Rattle.progression.specs.Tables.{StandsFor};
 
-use crate::plan::{MOST_OBLIGATIONS, Plan};
+use crate::plan::{MOST_NODES, MOST_OBLIGATIONS, Plan};
 use polynomials::Residual;
 use rules::Rule;
 use verdicts::{YesNo, evaluate};
 
+// Two rows of values, as an evaluation asks for.
+const TWO_ROWS: usize = 2 * MOST_NODES;
+
 // The values of the nodes on the empty rest: an evaluation of no events leaves them in its scratch.
-fn ended(rule: &Rule) -> [YesNo; 128]
+fn ended(rule: &Rule) -> [YesNo; TWO_ROWS]
     ensures { (j : ℕ) → j < node_count rule.now → at yes_no result j ≡ means yes_no (decode (node_of rule.now) j) [] }
 {
-    let mut values = [YesNo::Broken; 128];
+    let mut values = [YesNo::Broken; TWO_ROWS];
     evaluate(rule, 0, &[], &mut values).unwrap();
     values
 }

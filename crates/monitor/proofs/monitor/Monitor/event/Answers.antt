@@ -4,18 +4,9 @@ use Rattle.polynomials.specs.Polynomial.{substitute}
 use Rattle.progression.specs.Progress.{change}
 use Rattle.progression.specs.Tables.{StandsFor}
 use Rattle.monitor.specs.Serves.{watches}
-use Rattle.monitor.proofs.Calls.{event_serves, event_refused}
+use Rattle.monitor.proofs.Calls.{event_serves}
 use Rattle.monitor.proofs.Histories.{inner_same}
 use Rattle.monitor.proofs.monitor.Monitor.event.Goals as goal
-
-pub returns-in_err-letters : goal.returns-in_err-letters
-returns-in_err-letters g c =
-    let old = c.args.self.now in
-    let p = err_from_is_err_and c.from_residual.result c.from_residual.ensures.1 in
-    rw (p.1, p.2) record {
-      reading = refl;
-      serves = event_refused (watches g.R.Reading.meaning old) old.inner _ _ c.args.code c.in_err-letters.ensures (inner_same old.inner _ refl refl refl);
-    }
 
 pub returns : goal.returns
 returns g c =

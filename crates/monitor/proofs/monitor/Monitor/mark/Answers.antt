@@ -1,16 +1,9 @@
 use Rattle.std.proofs.Common.{refl, ap}
 use Rattle.std.proofs.lemmas.Result.{err_from_is_err_and}
 use Rattle.monitor.specs.Serves.{watches}
-use Rattle.monitor.proofs.Calls.{mark_serves, mark_refused}
+use Rattle.monitor.proofs.Calls.{mark_serves}
 use Rattle.monitor.proofs.Histories.{inner_same}
 use Rattle.monitor.proofs.monitor.Monitor.mark.Goals as goal
-
-pub returns-in_err-push : goal.returns-in_err-push
-returns-in_err-push g c =
-    let old = c.args.self.now in
-    let p = err_from_is_err_and c.from_residual.result c.from_residual.ensures.1 in
-    let same = inner_same old.inner _ refl refl c.in_err-push.ensures.2 in
-    rw (p.1, p.2) record { reading = refl; serves = mark_refused (watches g.R.Reading.meaning old) old.inner _ _ same c.in_err-push.ensures.0 c.in_err-push.ensures.1 }
 
 pub returns : goal.returns
 returns g c =
