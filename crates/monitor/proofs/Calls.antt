@@ -1,9 +1,9 @@
 -- Each call serves every history. Assumes nothing.
-use Rattle.std.proofs.Common.{◌≡◌, ℕ, ◌+◌, ◌-◌, ◌<◌, ◌≤◌, cond, List, [], ◌∷◌, ◌++◌, length, get_or, take, set, Some, None, Ok, Err, Option, sym, refl, ap, ◌∙◌, subst, arith, le-leb}
+use Rattle.std.proofs.Common.{◌≡◌, ℕ, ◌+◌, ◌-◌, ◌<◌, cond, List, [], ◌∷◌, ◌++◌, length, get_or, take, set, Some, None, Ok, Err, Option, sym, refl, ap, ◌∙◌, subst, arith}
 use borrow.Author.Tests.{lt-leb}
 use Rattle.std.proofs.lemmas.List.{get_or-set_same, length-take-le, length_push, take_all}
 use Rattle.rules.specs.declared.fault.Fault.{Fault}
-use Rattle.rules.specs.declared.fault.Fault.TheVariants.{NinthMark, NoMark}
+use Rattle.rules.specs.declared.fault.Fault.TheVariants.{NinthMark}
 use Rattle.readings.specs.Meaning.{on_set}
 use Rattle.verdicts.specs.Case.{Subject}
 use Rattle.polynomials.specs.Polynomial.{Polynomial, substitute}
@@ -11,7 +11,7 @@ use Rattle.polynomials.specs.declared.residual.Residual.{Residual}
 use Rattle.progression.specs.Progress.{change}
 use Rattle.progression.specs.Tables.{StandsFor}
 use Rattle.monitor.specs.Monitored.{residual_of, Decided}
-use Rattle.monitor.specs.History.{History, opened, event_refusal, unmarked, refusal, backed, older, done, told_of}
+use Rattle.monitor.specs.History.{History, event_refusal, unmarked, refusal, backed, older, done, told_of}
 use Rattle.monitor.specs.Standings.{Tells}
 use Rattle.monitor.specs.Serves.{MarksStand, Stands, Says, Serves}
 use Rattle.monitor.specs.declared.call.Call.{Call}

@@ -1,7 +1,5 @@
 -- A set that is gathered number by number. Assumes nothing.
-use Rattle.std.proofs.Common.{◌≡◌, ℕ, ◌+◌, ◌<◌, ◌≤◌, Bool, true, false, ◌||◌, eqb, Decides, sym, refl, ap, ◌∙◌, subst, ⊎_elim, arith}
-use mathlib.Core.Bool.{or-false}
-use Rattle.std.proofs.lemmas.Bool.{cases_eq, eq-eqb, ne_eqb, or_right}
+use Rattle.std.proofs.Common.{◌≡◌, ℕ, ◌<◌, ◌≤◌, Bool, false, Decides}
 
 -- of the numbers below n the set has those that P holds of, and it has none above
 abbrev pub Gathered : (ℕ → Type 0) → ℕ → (ℕ → Bool) → Type 0

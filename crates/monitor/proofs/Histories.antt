@@ -6,7 +6,7 @@ use Rattle.std.proofs.lemmas.List.{take_more, take-append-le, take-take, get_or-
 use Rattle.rules.specs.declared.fault.Fault.{Fault}
 use Rattle.readings.specs.Meaning.{on_set}
 use Rattle.verdicts.specs.Case.{Subject}
-use Rattle.polynomials.specs.Polynomial.{Polynomial, substitute}
+use Rattle.polynomials.specs.Polynomial.{substitute}
 use Rattle.progression.specs.Progress.{change, residual}
 use Rattle.progression.specs.Tables.{StandsFor}
 use Rattle.progression.proofs.Exact.{residual_more}

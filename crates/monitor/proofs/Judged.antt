@@ -8,7 +8,7 @@ use Rattle.verdicts.specs.Meaning.{constant, means, rows}
 use Rattle.verdicts.specs.Valuation.{row_of, laid}
 use Rattle.verdicts.specs.YesNo.{yes_no}
 use Rattle.verdicts.specs.declared.scale.YesNo.{YesNo}
-use Rattle.verdicts.specs.declared.scale.YesNo.TheVariants.{Broken, Kept}
+use Rattle.verdicts.specs.declared.scale.YesNo.TheVariants.{Broken}
 use Rattle.verdicts.proofs.Traced.{rows_laid}
 use Rattle.polynomials.specs.Held.{terms, vectors}
 use Rattle.polynomials.specs.Polynomial.{value}

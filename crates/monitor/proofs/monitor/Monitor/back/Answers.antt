@@ -1,8 +1,6 @@
-use Rattle.std.proofs.Common.{refl, ap}
-use Rattle.std.proofs.lemmas.Result.{err_from_is_err_and}
+use Rattle.std.proofs.Common.{refl}
 use Rattle.monitor.specs.Serves.{watches}
 use Rattle.monitor.proofs.Calls.{back_serves}
-use Rattle.monitor.proofs.Histories.{inner_same}
 use Rattle.monitor.proofs.monitor.Monitor.back.Goals as goal
 
 pub returns : goal.returns

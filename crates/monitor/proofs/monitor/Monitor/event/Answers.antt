@@ -1,11 +1,9 @@
 use Rattle.std.proofs.Common.{ℕ, refl, subst}
-use Rattle.std.proofs.lemmas.Result.{err_from_is_err_and}
 use Rattle.polynomials.specs.Polynomial.{substitute}
 use Rattle.progression.specs.Progress.{change}
 use Rattle.progression.specs.Tables.{StandsFor}
 use Rattle.monitor.specs.Serves.{watches}
 use Rattle.monitor.proofs.Calls.{event_serves}
-use Rattle.monitor.proofs.Histories.{inner_same}
 use Rattle.monitor.proofs.monitor.Monitor.event.Goals as goal
 
 pub returns : goal.returns
