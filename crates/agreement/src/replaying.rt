@@ -7,7 +7,7 @@ use readings::{BoundRule, Reading};
 use rules::Fault;
 
 // Opens a monitor on a bound rule, makes every call on it, and closes it. The answer to each call is written down as far as there
-// is room.
+// is room, by index: what `get_mut` lends leaves the others unknown afterwards.
 pub fn replay<R: Reading + Drop>(
     bound: BoundRule<R>,
     calls: &[Call],
@@ -16,8 +16,8 @@ pub fn replay<R: Reading + Drop>(
     ensures { Agreement (subject_of R.meaning bound) calls.now answers.old answers.new result }
 {
     let mut monitor = Monitor::open(bound);
-    for i in 0..calls.len() {
-        let answer = serve(&mut monitor, calls[i]);
+    for (i, call) in calls.iter().enumerate() {
+        let answer = serve(&mut monitor, *call);
         if i < answers.len() {
             answers[i] = answer;
         }

@@ -8,7 +8,7 @@ use Rattle.verdicts.specs.Meaning.{constant, means, rows}
 use Rattle.verdicts.specs.Valuation.{row_of, laid}
 use Rattle.verdicts.specs.YesNo.{yes_no}
 use Rattle.verdicts.specs.declared.scale.YesNo.{YesNo}
-use Rattle.verdicts.specs.declared.scale.YesNo.TheVariants.{Broken, Kept}
+use Rattle.verdicts.specs.declared.scale.YesNo.TheVariants.{Broken}
 use Rattle.verdicts.proofs.Traced.{rows_laid}
 use Rattle.polynomials.specs.Held.{terms, vectors}
 use Rattle.polynomials.specs.Polynomial.{value}
@@ -20,7 +20,7 @@ use Rattle.reachable.specs.Reach.{Moves, MayAll, ForGood}
 use Rattle.progression.specs.Obligations.{obligations}
 use Rattle.progression.specs.Progress.{is_kept, moves_of}
 use Rattle.progression.specs.Tables.{StandsFor}
-use Rattle.progression.proofs.Exact.{rest_value, vec_lt}
+use Rattle.progression.proofs.Exact.{kept_said, said_kept, rest_value, vec_lt}
 use Rattle.monitor.specs.Monitored.{subject, watched, residual_of, Undoubted, Each, Decided}
 use Rattle.monitor.specs.Standings.{Settles, Whatever, Tells}
 use Rattle.monitor.specs.declared.setup.Setup.{Setup}
@@ -28,17 +28,9 @@ use Rattle.monitor.specs.declared.standing.Finality.{Finality}
 use Rattle.monitor.specs.declared.standing.Standing.{Standing}
 use Rattle.monitor.proofs.Letters.{set_lt, row_set}
 
-said_kept : (v : YesNo) → constant yes_no (is_kept v) ≡ v
-said_kept Broken = refl
-said_kept Kept = refl
-
-kept_said : (x : Bool) → is_kept (constant yes_no x) ≡ x
-kept_said true = refl
-kept_said false = refl
-
 good_true : (x : Bool) → cond x Finality.ForGood Finality.SoFar ≡ Finality.ForGood → x ≡ true
 good_true true e = refl
-good_true false e = absurd (let z : ◌≡◌ {A = ℕ} 0 1 = cc in omega arith)
+good_true false e = cc
 
 module _ (m : Meaning) (s : Setup) where
   abbrev b : Subject

@@ -1,11 +1,14 @@
 -- What a standing says of the events. Assumes nothing.
 use Rattle.std.specs.Prelude.{◌≡◌, ℕ, ◌↔◌, List, ◌++◌, length, Some, None, Ok, Err, Option, Result}
 use Rattle.rules.specs.declared.fault.Fault.{Fault}
+use Rattle.readings.specs.Meaning.{Meaning}
 use Rattle.verdicts.specs.Case.{Subject, on}
 use Rattle.verdicts.specs.declared.scale.YesNo.{YesNo}
 use Rattle.verdicts.specs.declared.scale.YesNo.TheVariants.{Broken, Kept}
+use Rattle.polynomials.specs.declared.residual.Residual.{Residual}
 use Rattle.progression.specs.Tables.{StandsFor}
-use Rattle.monitor.specs.Monitored.{watched, residual_of, Undoubted, Each}
+use Rattle.monitor.specs.Monitored.{watched, residual_of, Undoubted, Each, subject, Decided}
+use Rattle.monitor.specs.declared.setup.Setup.{Setup}
 use Rattle.monitor.specs.declared.standing.Finality.{Finality}
 use Rattle.monitor.specs.declared.standing.Standing.{Standing}
 
@@ -25,6 +28,10 @@ pub record Tells (b : Subject) (cs : List ℕ) (s : Standing) : Type 0 where
   pub residual : StandsFor s.residual (residual_of b cs)
   pub kept : Settles s Kept ↔ Whatever b cs Kept
   pub broken : Settles s Broken ↔ Whatever b cs Broken
+
+-- A STANDING AT A POINT, whatever the reading means: it tells of all events that come to n and leave this residual
+abbrev pub TellsAt : Setup → ℕ → Residual → Standing → Type 0
+TellsAt s n x t = (m : Meaning) (cs : List ℕ) → Decided (subject m s) s → StandsFor x (residual_of (subject m s) cs) → n ≡ length cs → Tells (subject m s) cs t
 
 -- the answer of a call that may be refused
 abbrev pub Answers : Option Fault → (Standing → Type 0) → Result Standing Fault → Type 0

@@ -1,12 +1,11 @@
 // A look ahead: the residual is that after one event more while the guard lives, and is restored when it is dropped.
-ghost use Rattle.std.specs.Prelude.{◌≡◌, ℕ, List, length};
-ghost use Rattle.readings.specs.Meaning.{Meaning};
+ghost use Rattle.std.specs.Prelude.{◌≡◌, ◌≤◌};
 ghost use Rattle.polynomials.specs.Polynomial.{Polynomial, substitute};
 ghost use Rattle.progression.specs.Progress.{change};
 ghost use Rattle.progression.specs.Tables.{StandsFor};
-ghost use Rattle.monitor.specs.Monitored.{Decided, residual_of, subject};
-ghost use Rattle.monitor.specs.Standings.{Tells};
+ghost use Rattle.monitor.specs.Standings.{TellsAt};
 
+use crate::point::Point;
 use crate::setup::Setup;
 use crate::standing::Standing;
 use polynomials::Residual;
@@ -28,9 +27,13 @@ impl<'a> Ahead<'a> {
     }
 
     pub(crate) fn standing(&self, setup: &Setup, count: usize) -> Standing
-        ensures tells { (m : Meaning) (cs : List ℕ) → Decided (subject m setup.now) setup.now → StandsFor self.now.residual.now (residual_of (subject m setup.now) cs) → count ≡ length cs → Tells (subject m setup.now) cs result }
+        requires { count ≤ 4095 }
+        ensures { TellsAt setup.now count self.now.residual.now result }
     {
-        setup.standing(count, *self.residual)
+        setup.standing(Point {
+            count,
+            residual: *self.residual,
+        })
     }
 }
 

@@ -7,6 +7,7 @@ mod inner;
 mod marks;
 mod monitor;
 mod opening;
+mod point;
 mod serving;
 mod setup;
 mod standing;

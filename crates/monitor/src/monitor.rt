@@ -5,24 +5,21 @@ ghost use Rattle.readings.specs.Meaning.{on_set};
 ghost use Rattle.verdicts.specs.Case.{subject_of};
 ghost use Rattle.progression.specs.Obligations.{obligations};
 ghost use Rattle.monitor.specs.Monitored.{subject, unmonitored};
-ghost use Rattle.monitor.specs.History.{History, opened, event_refusal};
-ghost use Rattle.monitor.specs.Standings.{Tells};
-ghost use Rattle.monitor.specs.Serves.{Stands, Serves};
+ghost use Rattle.monitor.specs.History.{opened, event_refusal};
+ghost use Rattle.monitor.specs.Serves.{Stands, Says, ServesCall, watches};
 ghost use Rattle.monitor.specs.declared.call.Call.{Call};
 
 use crate::guard::Ahead;
-use crate::inner::{Inner, Mark};
+use crate::inner::Inner;
+use crate::marks::Marks;
 use crate::opening::possible_sets;
+use crate::point::Point;
 use crate::setup::Setup;
 use crate::standing::Standing;
-use progression::Plan;
+use progression::{MOST_OBLIGATIONS, Plan};
 use readings::{BoundRule, Reading};
 use rules::Fault;
-
-// The most obligations of a rule, and the most events.
-const OBLIGATIONS: usize = 8;
-
-const EVENTS: usize = 4095;
+use verdicts::{MOST_EVENTS, YesNo};
 
 #[derive(Drop)]
 pub struct Monitor<R: Reading> {
@@ -37,7 +34,7 @@ impl<R: Reading> Monitor<R> {
     {
         let plan = Plan::new(*bound.rule());
         let count = plan.count();
-        if count > OBLIGATIONS {
+        if count > MOST_OBLIGATIONS {
             return Err(Fault::ManyObligations(count));
         }
         Ok(count)
@@ -46,103 +43,96 @@ impl<R: Reading> Monitor<R> {
     // A monitor with no events. Of a rule that the check refuses it monitors the constant `false`.
     pub fn open(bound: BoundRule<R>) -> Monitor<R>
         ensures reading { result.reading ≡ bound.reading }
-        ensures subject { subject (R.meaning bound.reading) result.inner.setup ≡ subject_of R.meaning bound }
+        ensures subject { watches R.meaning result ≡ subject_of R.meaning bound }
         ensures stands { Stands (subject_of R.meaning bound) opened result.inner }
     {
         let (reading, rule, names) = bound.into_parts();
         let possible = possible_sets(&reading, &names[0..rule.letters().len()]);
         let setup = Setup::new(rule, names, possible);
-        let residual = setup.plan.fresh();
+        let now = Point {
+            count: 0,
+            residual: setup.plan.fresh(),
+        };
+        let marks = Marks::none(now);
         Monitor {
             reading,
-            inner: Inner {
-                setup,
-                residual,
-                count: 0,
-                marks: [Mark { count: 0, residual }; 8],
-                set: 0,
-            },
+            inner: Inner { setup, now, marks },
         }
     }
 
     // How things stand.
     pub fn standing(&self) -> Standing
-        ensures { (h : History) → Stands (subject (R.meaning self.now.reading) self.now.inner.setup) h self.now.inner → Tells (subject (R.meaning self.now.reading) self.now.inner.setup) h.codes result }
+        ensures { Says (watches R.meaning self.now) self.now.inner result }
     {
-        self.inner.standing()
+        self.inner.setup.standing(self.inner.now)
     }
 
     // Takes in an event.
     pub fn event(&mut self, code: u32) -> Result<Standing, Fault>
-        ensures reading { self.new.reading ≡ self.old.reading }
-        ensures serves { Serves (subject (R.meaning self.old.reading) self.old.inner.setup) (Call.Event code) self.old.inner self.new.inner result }
+        ensures { ServesCall R.meaning (Call.Event code) self.old self.new result }
     {
-        let letters = admitted(&self.reading, &self.inner.setup, self.inner.count, code)?;
-        self.inner.residual = self.inner.setup.plan.after(self.inner.residual, letters);
-        self.inner.count += 1;
-        Ok(self.inner.standing())
+        let now = self.inner.now;
+        let letters = admitted(&self.reading, &self.inner.setup, now, code)?;
+        self.inner.now = Point {
+            count: now.count + 1,
+            residual: self.inner.setup.plan.after(now.residual, letters),
+        };
+        Ok(self.standing())
     }
 
     // What `event` would answer. The monitor is left as it is.
     pub fn look_ahead(&mut self, code: u32) -> Result<Standing, Fault>
         ensures same { self.new ≡ self.old }
-        ensures serves { Serves (subject (R.meaning self.old.reading) self.old.inner.setup) (Call.LookAhead code) self.old.inner self.new.inner result }
+        ensures serves { ServesCall R.meaning (Call.LookAhead code) self.old self.new result }
     {
-        let count = self.inner.count;
+        let now = self.inner.now;
         let (letters, _) = self.reading.show(code, self.inner.setup.letters());
-        let guard = Ahead::new(&mut self.inner.residual, &self.inner.setup, letters);
-        admitted(&self.reading, &self.inner.setup, count, code)?;
-        Ok(guard.standing(&self.inner.setup, count + 1))
+        let guard = Ahead::new(&mut self.inner.now.residual, &self.inner.setup, letters);
+        admitted(&self.reading, &self.inner.setup, now, code)?;
+        Ok(guard.standing(&self.inner.setup, now.count + 1))
     }
 
     // Sets a mark at the events that stand.
     pub fn mark(&mut self) -> Result<Standing, Fault>
-        ensures reading { self.new.reading ≡ self.old.reading }
-        ensures serves { Serves (subject (R.meaning self.old.reading) self.old.inner.setup) Call.Mark self.old.inner self.new.inner result }
+        ensures { ServesCall R.meaning Call.Mark self.old self.new result }
     {
-        self.inner.mark()
+        self.inner.marks.push(self.inner.now)?;
+        Ok(self.standing())
     }
 
     // Strikes the events past the newest mark, and removes that mark.
     pub fn back(&mut self) -> Result<Standing, Fault>
-        ensures reading { self.new.reading ≡ self.old.reading }
-        ensures serves { Serves (subject (R.meaning self.old.reading) self.old.inner.setup) Call.Back self.old.inner self.new.inner result }
+        ensures { ServesCall R.meaning Call.Back self.old self.new result }
     {
-        self.inner.back()
+        self.inner.now = self.inner.marks.pop()?;
+        Ok(self.standing())
     }
 
     // Removes the newest mark, and strikes nothing.
     pub fn keep(&mut self) -> Result<Standing, Fault>
-        ensures reading { self.new.reading ≡ self.old.reading }
-        ensures serves { Serves (subject (R.meaning self.old.reading) self.old.inner.setup) Call.Keep self.old.inner self.new.inner result }
+        ensures { ServesCall R.meaning Call.Keep self.old self.new result }
     {
-        self.inner.keep()
+        self.inner.marks.pop()?;
+        Ok(self.standing())
     }
 
     // How things stand at the end. A monitor that is closed is gone.
     pub fn close(self) -> Standing
     where
         R: Drop,
-        ensures { (h : History) → Stands (subject (R.meaning self.reading) self.inner.setup) h self.inner → Tells (subject (R.meaning self.reading) self.inner.setup) h.codes result }
+        ensures { Says (watches R.meaning self) self.inner result }
     {
         self.standing()
     }
 }
 
-// The letters that are on at the code of an event that comes after `count` others.
-fn admitted<R: Reading>(reading: &R, setup: &Setup, count: usize, code: u32) -> Result<u8, Fault>
-    requires { count ≤ 4095 }
-    ensures { MatchResult result (λ on. (event_refusal (subject (R.meaning reading.now) setup.now) count code ≡ None) × (on ≡ on_set (R.meaning reading.now) code (subject (R.meaning reading.now) setup.now).numbers) × (count < 4095)) (λ f. event_refusal (subject (R.meaning reading.now) setup.now) count code ≡ Some f) }
+// The letters that are on at the code of an event that comes at this point.
+fn admitted<R: Reading>(reading: &R, setup: &Setup, now: Point, code: u32) -> Result<u8, Fault>
+    ensures { MatchResult result (λ on. (event_refusal (subject (R.meaning reading.now) setup.now) now.count code ≡ None) × (on ≡ on_set (R.meaning reading.now) code (subject (R.meaning reading.now) setup.now).numbers) × (now.count < 4095)) (λ f. event_refusal (subject (R.meaning reading.now) setup.now) now.count code ≡ Some f) }
 {
-    if count >= EVENTS {
+    if now.count >= MOST_EVENTS {
         return Err(Fault::ManyEvents);
     }
-    if code >= reading.codes() {
-        return Err(Fault::HighCode(count + 1));
-    }
-    let (on, doubt) = reading.show(code, setup.letters());
-    if doubt != 0 {
-        return Err(Fault::InDoubt(count + 1));
-    }
+    let (on, _) = verdicts::admitted::<YesNo, R>(reading, setup.letters(), now.count + 1, code)?;
     Ok(on)
 }

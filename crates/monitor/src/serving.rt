@@ -1,7 +1,5 @@
 // Calls as values.
-ghost use Rattle.std.specs.Prelude.{◌≡◌};
-ghost use Rattle.monitor.specs.Monitored.{subject};
-ghost use Rattle.monitor.specs.Serves.{Serves};
+ghost use Rattle.monitor.specs.Serves.{ServesCall};
 
 use crate::call::Call;
 use crate::monitor::Monitor;
@@ -9,10 +7,9 @@ use crate::standing::Standing;
 use readings::Reading;
 use rules::Fault;
 
-// Makes one call on a monitor.
+// Makes one call on a monitor. A switch and no closures: a list of calls is compared, kept and sent as values.
 pub fn serve<R: Reading>(monitor: &mut Monitor<R>, call: Call) -> Result<Standing, Fault>
-    ensures reading { monitor.new.reading ≡ monitor.old.reading }
-    ensures serves { Serves (subject (R.meaning monitor.old.reading) monitor.old.inner.setup) call monitor.old.inner monitor.new.inner result }
+    ensures { ServesCall R.meaning call monitor.old monitor.new result }
 {
     match call {
         Call::Event(code) => monitor.event(code),

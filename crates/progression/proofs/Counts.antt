@@ -1,6 +1,9 @@
 -- Counting and finding the numbers that pass a test. Assumes nothing.
-use Rattle.std.proofs.Common.{◌≡◌, ℕ, zero, suc, ◌+◌, ◌<◌, ◌≤◌, Bool, true, false, cond, ◌&&◌, ◌||◌, eqb, sym, refl, ap, ◌∙◌, subst, ap₂, ⊎_elim, not-suc-le-zero, add-one, arith}
+use Rattle.std.proofs.Common.{◌≡◌, ℕ, zero, suc, ◌+◌, ◌<◌, ◌≤◌, Bool, true, false, cond, ◌&&◌, ◌||◌, eqb, List, length, get_or, take, sym, refl, ap, ◌∙◌, subst, ap₂, ⊎_elim, not-suc-le-zero, add-one, arith}
 use Rattle.std.proofs.lemmas.Bool.{eq-eqb, ne_eqb, or_left, or_right, and_right, cases_eq, cond-true, cond-false}
+use Rattle.std.specs.List.{list_any}
+use Rattle.std.proofs.lemmas.List.{take_all}
+use Rattle.std.proofs.lemmas.List.Folds.{list_any_more}
 use Rattle.progression.specs.Obligations.{any_below, count_below, nth_below}
 
 pub any_at : (n : ℕ) (f : ℕ → Bool) (k : ℕ) → k < n → f k ≡ true → any_below n f ≡ true
@@ -9,6 +12,18 @@ any_at zero f k h e = absurd (not-suc-le-zero h)
 any_at (suc n) f k h e =
     ⊎_elim (λ (s : k ≡ n). or_right (any_below n f) (f n) (ap f (sym s) ∙ e))
     (λ (d : k ≡ n → ⊥). or_left (any_below n f) (f n) (any_at n f k (omega arith) e)) (cases_eq k n)
+
+-- a test of each element of a list
+any_taken : {A : Type 0} (p : A → Bool) (xs : List A) (d : A) (n : ℕ) → n ≤ length xs → list_any p (take n xs) ≡ any_below n (λ k. p (get_or xs k d))
+unfolding any_below
+any_taken p xs d zero h = refl
+any_taken p xs d (suc n) h =
+    ap (λ (k : ℕ). list_any p (take k xs)) (sym (add-one n))
+    ∙ list_any_more p xs n d (omega arith)
+    ∙ ap (λ (b : Bool). b || p (get_or xs n d)) (any_taken p xs d n (omega arith))
+
+pub any_listed : {A : Type 0} (p : A → Bool) (xs : List A) (d : A) → list_any p xs ≡ any_below (length xs) (λ k. p (get_or xs k d))
+any_listed p xs d = ap (list_any p) (sym (take_all (length xs) xs (omega arith))) ∙ any_taken p xs d (length xs) (omega arith)
 
 count_up : (b : Bool) (c : ℕ) → c ≤ cond b (c + 1) c
 count_up true c = omega arith
@@ -57,14 +72,6 @@ nth_lt f zero i h = absurd (not-suc-le-zero h)
 nth_lt f (suc n) i h = pick_lt (f n && eqb (count_below f n) i) n (nth_below f n i) (nth_le f n i)
 
 -- one step of a loop
-
-pub any_none : (f : ℕ → Bool) → false ≡ any_below 0 f
-unfolding any_below
-any_none f = refl
-
-pub any_more : (n : ℕ) (f : ℕ → Bool) (a b : Bool) → a ≡ any_below n f → b ≡ f n → (a || b) ≡ any_below (n + 1) f
-unfolding any_below
-any_more n f a b p q = ap₂ ◌||◌ p q ∙ ap (λ (k : ℕ). any_below k f) (sym (add-one n))
 
 pub count_none : (f : ℕ → Bool) → 0 ≡ count_below f 0
 unfolding count_below

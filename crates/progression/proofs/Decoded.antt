@@ -1,6 +1,6 @@
 -- The operands of a rule's node come before it, so its tree is made of theirs. Assumes nothing.
-use Rattle.std.proofs.Common.{◌≡◌, ℕ, zero, suc, ◌<◌, ◌≤◌, List, [], ◌∷◌, length, take, sym, ap, ◌∙◌, ⊎_elim, arith}
-use Rattle.std.proofs.lemmas.List.{get_or-take, get_or_past}
+use Rattle.std.proofs.Common.{◌≡◌, ℕ, ◌<◌, ◌≤◌, length, sym, ap, ◌∙◌, ⊎_elim, arith}
+use Rattle.std.proofs.lemmas.List.{get_or-take, get_or_past, length-take}
 use Rattle.std.proofs.lemmas.Bool.{cases_lt}
 use Rattle.rules.specs.Rules.{node_count, letter_count, nodes_of}
 use Rattle.rules.specs.Tree.{fits, tree_of, within, decode}
@@ -16,16 +16,11 @@ node_below r j h =
     fits_below (letter_count r) j (node_of r j)
     (ap (fits (letter_count r) j) (get_or-take (node_count r) r.table.nodes j (Node.Letter 0) h) ∙ r.ok j h)
 
-take_le : {A : Type 0} (n : ℕ) (xs : List A) → length (take n xs) ≤ n
-take_le zero xs = omega arith
-take_le (suc n) [] = omega arith
-take_le (suc n) (x ∷ xs) = omega (arith, take_le n xs)
-
 -- past the nodes that there are, each reads as a letter, which has no operands
 pub node_tree : (r : Rule) (j : ℕ) → decode (node_of r) j ≡ tree_of (decode (node_of r)) (node_of r j)
 node_tree r j =
     ⊎_elim
-    (λ (h : j < length (nodes_of r)). decode_step (nodes_of r) (λ i l. node_below r i (omega (arith, take_le (node_count r) r.table.nodes))) j h)
+    (λ (h : j < length (nodes_of r)). decode_step (nodes_of r) (λ i l. node_below r i (omega (arith, length-take (node_count r) r.table.nodes))) j h)
     (λ (h : length (nodes_of r) ≤ j). let past : node_of r j ≡ Node.Letter 0 = get_or_past (nodes_of r) j (Node.Letter 0) h in
     ap (tree_of (within j (node_of r))) past ∙ sym (ap (tree_of (decode (node_of r))) past))
     (cases_lt j (length (nodes_of r)))

@@ -25,11 +25,11 @@ use Rattle.progression.proofs.Valued.{said, value_nothing, value_poly, row_said,
 
 -- ---- bits and verdicts
 
-kept_said : (b : Bool) → is_kept (said b) ≡ b
+pub kept_said : (b : Bool) → is_kept (said b) ≡ b
 kept_said true = refl
 kept_said false = refl
 
-said_kept : (v : YesNo) → said (is_kept v) ≡ v
+pub said_kept : (v : YesNo) → said (is_kept v) ≡ v
 said_kept YesNo.Broken = refl
 said_kept YesNo.Kept = refl
 

@@ -1,4 +1,5 @@
 pub mod Counts
+pub mod Made
 pub mod Valued
 pub mod Chosen
 pub mod Decoded

@@ -1,6 +1,7 @@
 -- The truth tables that the code makes. Assumes nothing.
-use Rattle.std.proofs.Common.{◌≡◌, ℕ, zero, suc, ◌-◌, ◌<◌, ◌≤◌, Bool, false, ◌&&◌, ltb, List, [], get_or, sym, refl, ap, ◌∙◌, not-suc-le-zero, arith}
-use Rattle.std.proofs.lemmas.Bool.{lt-ltb, le-ltb, cond-true, cond-false}
+use Rattle.std.proofs.Common.{◌≡◌, ℕ, zero, suc, ◌-◌, ◌<◌, ◌≤◌, Bool, true, false, ◌&&◌, ltb, List, [], get_or, MatchOption, sym, refl, ap, ◌∙◌, not-suc-le-zero, arith}
+use Rattle.std.proofs.lemmas.Bool.{lt-ltb, le-ltb, cond-true, cond-false, ltb-true, ltb-false}
+use Rattle.std.specs.Bool.{then_some}
 use Rattle.rules.specs.Rules.{node_count}
 use Rattle.rules.specs.Tree.{decode}
 use Rattle.rules.specs.declared.node.Node.{Node}
@@ -40,13 +41,18 @@ module _ (p : Plan) where
   number_value : (j v : ℕ) → j < node_count p.rule → v < 256 → in_set (get_or p.numbers j 0) v ≡ value (later p.rule j) v
   number_value j v h l = ap (λ (i : ℕ). in_set i v) (p.numbered j h) ∙ sym (value_variable (number p.rule j) v l)
 
-  pub place_within : (i : ℕ) → i < 8 → i < p.count → get_or p.places i 0 < node_count p.rule
-  place_within i eight h =
-      let low : i < obligations p.rule = omega (arith, p.counted) in
-      omega (arith, p.placed i eight low, place_lt p.rule i)
-
-  pub place_fits : (i : ℕ) → i < 8 → i < p.count → get_or p.places i 0 < 64
-  place_fits i eight h = omega (arith, place_within i eight h, p.rule.few)
+  -- the node of obligation i, if there are so many
+  pub place_is : (i : ℕ) → i < 8 → MatchOption (then_some (ltb i p.count) (get_or p.places i 0)) (obligations p.rule ≤ i) (λ j. (i < obligations p.rule) × (j ≡ place p.rule i) × (j < node_count p.rule))
+  place_is i eight = go (ltb i p.count) refl
+    where
+      go : (b : Bool) → ltb i p.count ≡ b → MatchOption (then_some b (get_or p.places i 0)) (obligations p.rule ≤ i) (λ j. (i < obligations p.rule) × (j ≡ place p.rule i) × (j < node_count p.rule))
+      go true e =
+          let h : i < p.count = ltb-true i p.count e in
+          let low : i < obligations p.rule = omega (arith, p.counted) in
+          (low, p.placed i eight low, omega (arith, p.placed i eight low, place_lt p.rule i))
+      go false e =
+          let h : p.count ≤ i = ltb-false i p.count e in
+          omega (arith, p.counted)
 
   pub root_number : get_or p.numbers (node_count p.rule - 1) 0 ≡ number p.rule (node_count p.rule - 1)
   root_number = p.numbered (node_count p.rule - 1) (omega (arith, p.rule.some))
@@ -68,30 +74,29 @@ module _ (p : Plan) where
       (λ _. number_value j v h l)
       ∙ sym (value_poly (letters_in a) (poly_within j r a) (later r) (later r j) v n)
 
-  pub change_within : (a : ℕ) (ts : List VectorSet) (i : ℕ) → i < 8 → i < p.count → Tabled p.rule a (node_count p.rule) ts → (v : ℕ) → v < 256 →
-      vectors_of ts (get_or p.places i 0) v ≡ value (change p.rule a i) v
+-- ---- obligation i, where its node is j or where there are not so many
+
+module _ (r : Rule) (i j : ℕ) (low : i < obligations r) (is : j ≡ place r i) where
+  pub change_within : (a : ℕ) (ts : List VectorSet) → Tabled r a (node_count r) ts → (v : ℕ) → v < 256 → vectors_of ts j v ≡ value (change r a i) v
   unfolding change
-  change_within a ts i eight h is v l =
-      let r = p.rule in
-      let low : i < obligations r = omega (arith, p.counted) in
-      ap (λ (k : ℕ). vectors_of ts k v) (p.placed i eight low)
-      ∙ is (place r i) (place_lt r i) v l
+  change_within a ts tabled v l =
+      ap (λ (k : ℕ). vectors_of ts k v) is
+      ∙ tabled (place r i) (place_lt r i) v l
       ∙ ap (λ P. value P v) (sym (cond-true (ltb i (obligations r)) (poly_at r a (place r i)) nothing (lt-ltb i (obligations r) low)))
 
-  pub change_past : (a i : ℕ) (x : VectorSet) → p.count ≤ i → ((v : ℕ) → vectors x v ≡ false) → (v : ℕ) → v < 256 → vectors x v ≡ value (change p.rule a i) v
+  pub end_within : (ends : List YesNo) → ((k : ℕ) → k < node_count r → at yes_no ends k ≡ means yes_no (decode (node_of r) k) []) →
+      is_kept (at yes_no ends j) ≡ (ltb i (obligations r) && is_kept (means yes_no (decode (node_of r) (place r i)) []))
+  end_within ends ended =
+      ap (λ (k : ℕ). is_kept (at yes_no ends k)) is
+      ∙ ap is_kept (ended (place r i) (place_lt r i))
+      ∙ ap (λ (b : Bool). b && is_kept (means yes_no (decode (node_of r) (place r i)) [])) (sym (lt-ltb i (obligations r) low))
+
+module _ (r : Rule) (i : ℕ) (far : obligations r ≤ i) where
+  pub change_past : (a : ℕ) (x : VectorSet) → ((v : ℕ) → vectors x v ≡ false) → (v : ℕ) → v < 256 → vectors x v ≡ value (change r a i) v
   unfolding change
-  change_past a i x h is v l =
-      let r = p.rule in
-      let far : obligations r ≤ i = omega (arith, p.counted) in
+  change_past a x is v l =
       is v ∙ sym (value_nothing v)
       ∙ ap (λ P. value P v) (sym (cond-false (ltb i (obligations r)) (poly_at r a (place r i)) nothing (le-ltb i (obligations r) far)))
 
-  -- the end value of obligation i, from those of the nodes
-  pub end_within : (ends : List YesNo) → ((j : ℕ) → j < node_count p.rule → at yes_no ends j ≡ means yes_no (decode (node_of p.rule) j) []) → (i : ℕ) → i < 8 → i < p.count →
-      is_kept (at yes_no ends (get_or p.places i 0)) ≡ (ltb i (obligations p.rule) && is_kept (means yes_no (decode (node_of p.rule) (place p.rule i)) []))
-  end_within ends is i eight h =
-      let r = p.rule in
-      let low : i < obligations r = omega (arith, p.counted) in
-      ap (λ (k : ℕ). is_kept (at yes_no ends k)) (p.placed i eight low)
-      ∙ ap is_kept (is (place r i) (place_lt r i))
-      ∙ ap (λ (b : Bool). b && is_kept (means yes_no (decode (node_of r) (place r i)) [])) (sym (lt-ltb i (obligations r) low))
+  pub end_past : (b : Bool) → false ≡ (ltb i (obligations r) && b)
+  end_past b = ap (λ (x : Bool). x && b) (sym (le-ltb i (obligations r) far))

@@ -2,7 +2,7 @@
 use Rattle.std.specs.Prelude.{◌≡◌, ℕ, ◌<◌, Bool, true, false, not, ◌&&◌, ◌||◌, List, [], slice_index_or}
 use Rattle.rules.specs.declared.rule.Rule.{Rule}
 use Rattle.verdicts.specs.Scale.{Ops}
-use Rattle.polynomials.specs.Held.{terms, vectors_of}
+use Rattle.polynomials.specs.Held.{terms, vectors, vectors_of}
 use Rattle.polynomials.specs.Polynomial.{Polynomial, value}
 use Rattle.polynomials.specs.declared.residual.Residual.{Residual}
 use Rattle.polynomials.specs.declared.vectors.VectorSet.{VectorSet}
@@ -11,6 +11,10 @@ use Rattle.progression.specs.Progress.{poly_at, change}
 -- the operators on the bits of truth tables
 abbrev pub bools : Ops Bool
 bools = record { bottom = false; top = true; meet = ◌&&◌; join = ◌||◌; negate = not }
+
+-- x is the truth table of f
+abbrev pub TruthTable : VectorSet → (ℕ → Bool) → Type 0
+TruthTable x f = (v : ℕ) → v < 256 → vectors x v ≡ f v
 
 -- x has the terms of P
 abbrev pub StandsFor : Residual → Polynomial → Type 0

@@ -8,5 +8,5 @@ mod planned;
 mod step;
 mod transitions;
 
-pub use plan::Plan;
+pub use plan::{MOST_OBLIGATIONS, Plan};
 pub use transitions::Transitions;

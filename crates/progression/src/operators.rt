@@ -4,20 +4,16 @@ ghost use Rattle.verdicts.specs.Step.{Below, unary_row, binary_row, step_row};
 ghost use Rattle.polynomials.specs.Held.{vectors, vectors_of};
 ghost use Rattle.polynomials.specs.Sets.{in_set};
 ghost use Rattle.progression.specs.Progress.{letters_in};
-ghost use Rattle.progression.specs.Tables.{bools};
+ghost use Rattle.progression.specs.Tables.{bools, TruthTable};
 
+use crate::plan::MOST_NODES;
 use polynomials::{Residual, VectorSet};
+use readings::has;
 use rules::{Binary, Node, Unary};
 
-// Whether letter l is in the set.
-fn is_on(letters: u8, l: u8) -> bool
-    ensures { result ≡ letters_in letters l }
-{
-    l < 8 && (letters >> l) & 1 == 1
-}
-
+// A function and no `From`: neither type is this crate's.
 fn constant(v: bool) -> VectorSet
-    ensures { (v' : ℕ) → v' < 256 → vectors result v' ≡ v }
+    ensures { TruthTable result (λ _. v) }
 {
     if v {
         VectorSet::full()
@@ -28,14 +24,15 @@ fn constant(v: bool) -> VectorSet
 
 // The value of the obligation with this number, counted from 1; there are eight at most.
 fn variable(number: u8) -> VectorSet
-    ensures { (v : ℕ) → v < 256 → vectors result v ≡ in_set number v }
+    ensures { TruthTable result (λ v. in_set number v) }
 {
     Residual::variable(number).to_values()
 }
 
+// The operators are not those of a scale of verdicts: a table has one step for what `Xor` and `Iff` of a scale do in five.
 // `next` is the operand's value after the event, and `own` the operator's.
 fn unary(op: Unary, x: VectorSet, next: VectorSet, own: VectorSet) -> VectorSet
-    ensures { (v : ℕ) → v < 256 → vectors result v ≡ unary_row bools op (vectors x v) (vectors next v) (vectors own v) }
+    ensures { TruthTable result (λ v. unary_row bools op (vectors x v) (vectors next v) (vectors own v)) }
 {
     match op {
         Unary::Not => x.complement(),
@@ -46,7 +43,7 @@ fn unary(op: Unary, x: VectorSet, next: VectorSet, own: VectorSet) -> VectorSet
 }
 
 fn binary(op: Binary, x: VectorSet, y: VectorSet, own: VectorSet) -> VectorSet
-    ensures { (v : ℕ) → v < 256 → vectors result v ≡ binary_row bools op (vectors x v) (vectors y v) (vectors own v) }
+    ensures { TruthTable result (λ v. binary_row bools op (vectors x v) (vectors y v) (vectors own v)) }
 {
     match op {
         Binary::Until => y.union(x.intersection(own)),
@@ -62,16 +59,16 @@ fn binary(op: Binary, x: VectorSet, y: VectorSet, own: VectorSet) -> VectorSet
 pub(crate) fn node_table(
     node: Node,
     j: usize,
-    numbers: &[u8; 64],
-    tables: &[VectorSet; 64],
+    numbers: &[u8; MOST_NODES],
+    tables: &[VectorSet; MOST_NODES],
     letters: u8,
 ) -> VectorSet
     requires j_bound { j < 64 }
     requires below { Below j node }
-    ensures { (v : ℕ) → v < 256 → vectors result v ≡ step_row bools (letters_in letters) (λ a. vectors_of tables.now a v) (λ a. in_set (slice_index numbers.now a) v) (in_set (slice_index numbers.now j) v) node }
+    ensures { TruthTable result (λ v. step_row bools (letters_in letters) (λ a. vectors_of tables.now a v) (λ a. in_set (slice_index numbers.now a) v) (in_set (slice_index numbers.now j) v) node) }
 {
     match node {
-        Node::Letter(l) => constant(is_on(letters, l)),
+        Node::Letter(l) => constant(has(letters, l as usize)),
         Node::Truth(v) => constant(v),
         Node::Before(op, a) => unary(
             op,

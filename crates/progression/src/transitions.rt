@@ -4,9 +4,13 @@ ghost use Rattle.polynomials.specs.Held.{vectors};
 ghost use Rattle.progression.specs.Progress.{at_end, moves_of};
 ghost use Rattle.progression.specs.Tables.{Changes, AllChanges};
 
-use crate::plan::Plan;
+use crate::plan::{MOST_OBLIGATIONS, Plan};
 use polynomials::VectorSet;
 use reachable::Machine;
+use std::array;
+
+// How many sets of eight letters there are.
+const LETTER_SETS: usize = 256;
 
 // The tables of every set of letters, and the sets that are possible. It is large, and wanted only while a monitor is opened.
 #[derive(Drop)]
@@ -14,20 +18,20 @@ pub struct Transitions {
     pub(crate) plan: Plan,
     pub(crate) possible: VectorSet,
     pub(crate) start: u8,
-    pub(crate) tables: [[VectorSet; 8]; 256],
+    pub(crate) tables: [[VectorSet; MOST_OBLIGATIONS]; LETTER_SETS],
     ghost started: { start ≡ at_end plan.rule },
     ghost changed: { AllChanges plan.rule tables },
 }
 
-fn all_changes(plan: &Plan) -> [[VectorSet; 8]; 256]
+fn all_changes(plan: &Plan) -> [[VectorSet; MOST_OBLIGATIONS]; LETTER_SETS]
     ensures { (a : ℕ) → a < 256 → Changes plan.now.rule a (slice_index_or result a []) }
 {
-    let mut tables = [[VectorSet::empty(); 8]; 256];
-    for a in 0..256 {
-        let changes = plan.changes(a as u8);
-        tables[a] = changes;
-    }
-    tables
+    array::from_fn(
+        |a|
+            requires { a < 256 }
+            ensures { Changes plan.entry.now.rule a result }
+        { plan.changes(a as u8) },
+    )
 }
 
 impl Transitions {

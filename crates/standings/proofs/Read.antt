@@ -14,8 +14,8 @@ use Rattle.standings.specs.Table.{ReadTabled}
 
 same_row : (n : ℕ) (xs ys : List Placed) → xs then the_end n ≡ ys then the_end n → xs ≡ ys
 same_row n [] [] e = refl
-same_row n [] (y ∷ ys) e = absurd (let z : ◌≡◌ {A = ℕ} 0 1 = cc in omega arith)
-same_row n (x ∷ xs) [] e = absurd (let z : ◌≡◌ {A = ℕ} 0 1 = cc in omega arith)
+same_row n [] (y ∷ ys) e = cc
+same_row n (x ∷ xs) [] e = cc
 same_row n (x ∷ xs) (y ∷ ys) e =
     let first : x ≡ y = cc in
     let more : xs then the_end n ≡ ys then the_end n = cc in

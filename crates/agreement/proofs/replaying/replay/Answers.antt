@@ -5,7 +5,7 @@ use Rattle.verdicts.specs.Case.{Subject, subject_of, on}
 use Rattle.claims.proofs.Right.{Bound, evaluated}
 use Rattle.monitor.specs.History.{History, opened, played}
 use Rattle.monitor.specs.Monitored.{subject}
-use Rattle.monitor.specs.Serves.{Stands, Serves}
+use Rattle.monitor.specs.Serves.{Stands, Serves, watches}
 use Rattle.monitor.specs.Standings.{Tells}
 use Rattle.monitor.specs.declared.call.Call.{Call}
 use Rattle.monitor.specs.declared.standing.Standing.{Standing}
@@ -28,8 +28,8 @@ loop-i-preserved g c =
     let meaning = g.R.Reading.meaning in
     let old = c.loop-i.monitor in
     let opened-at = c.open-monitor.result in
-    let b : Subject = subject (meaning opened-at.reading) opened-at.inner.setup in
-    let same : subject (meaning old.reading) old.inner.setup ≡ b = ap₂ (λ r s. subject (meaning r) s) inv.0 inv.1 in
+    let b : Subject = watches meaning opened-at in
+    let same : watches meaning old ≡ b = ap₂ (λ r s. subject (meaning r) s) inv.0 inv.1 in
     let call : Call = get_or calls i (Call.Event 0) in
     let serves : Serves b call old.inner c.serve-answer.new.monitor.inner c.serve-answer.result = subst (λ (x : Subject). Serves x call old.inner c.serve-answer.new.monitor.inner c.serve-answer.result) same c.serve-answer.ensures.serves in (
       c.serve-answer.ensures.reading ∙ inv.0,
@@ -55,10 +55,10 @@ returns g c =
     let meaning = g.R.Reading.meaning in
     let first = c.open-monitor.result in
     let last = c.loop-i.monitor in
-    let b : Subject = subject (meaning first.reading) first.inner.setup in
-    let is : b ≡ subject_of meaning c.args.bound = ap (λ r. subject (meaning r) first.inner.setup) c.open-monitor.ensures.reading ∙ c.open-monitor.ensures.subject in
+    let b : Subject = watches meaning first in
+    let is : b ≡ subject_of meaning c.args.bound = c.open-monitor.ensures.subject in
     let fresh : Stands b opened first.inner = subst (λ (x : Subject). Stands x opened first.inner) (sym is) c.open-monitor.ensures.stands in
-    let same : subject (meaning last.reading) last.inner.setup ≡ b = ap₂ (λ r s. subject (meaning r) s) inv.0 inv.1 in
+    let same : watches meaning last ≡ b = ap₂ (λ r s. subject (meaning r) s) inv.0 inv.1 in
     let closed : (h : History) → Stands b h last.inner → Tells b h.codes c.close.result = subst (λ (x : Subject). (h : History) → Stands x h last.inner → Tells x h.codes c.close.result) same c.close.ensures in
     let all : i ≡ length calls = omega arith in
     let ok : (cs : List ℕ) → Bound (on b cs) = λ cs. record { numbered = numbers_long (meaning first.reading) first.inner.setup; noded = first.inner.setup.plan.sized } in

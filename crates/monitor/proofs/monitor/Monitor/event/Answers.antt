@@ -1,21 +1,10 @@
 use Rattle.std.proofs.Common.{ℕ, refl, subst}
-use Rattle.std.proofs.lemmas.Result.{err_from_is_err_and}
 use Rattle.polynomials.specs.Polynomial.{substitute}
 use Rattle.progression.specs.Progress.{change}
 use Rattle.progression.specs.Tables.{StandsFor}
-use Rattle.monitor.specs.Monitored.{subject}
-use Rattle.monitor.proofs.Calls.{event_serves, event_refused}
-use Rattle.monitor.proofs.Histories.{inner_same}
+use Rattle.monitor.specs.Serves.{watches}
+use Rattle.monitor.proofs.Calls.{event_serves}
 use Rattle.monitor.proofs.monitor.Monitor.event.Goals as goal
-
-pub returns-in_err-letters : goal.returns-in_err-letters
-returns-in_err-letters g c =
-    let old = c.args.self.now in
-    let p = err_from_is_err_and c.from_residual.result c.from_residual.ensures.1 in
-    rw (p.1, p.2) record {
-      reading = refl;
-      serves = event_refused (subject (g.R.Reading.meaning old.reading) old.inner.setup) old.inner _ _ c.args.code c.in_err-letters.ensures (inner_same old.inner _ refl refl refl refl refl);
-    }
 
 pub returns : goal.returns
 returns g c =
@@ -23,6 +12,6 @@ returns g c =
     let h = c.in_ok-letters.ensures in
     record {
       reading = refl;
-      serves = event_serves (subject (g.R.Reading.meaning old.reading) old.inner.setup) old.inner _ c.standing.result c.args.code h.0 refl refl
-          (λ P st. subst (λ (a : ℕ). StandsFor c.after-self.result (substitute P (change old.inner.setup.plan.rule a))) h.1 (c.after-self.ensures P st)) refl refl (c.standing.ensures (g.R.Reading.meaning old.reading));
+      serves = event_serves (watches g.R.Reading.meaning old) old.inner _ c.standing.result c.args.code h.0 refl refl
+          (λ P st. subst (λ (a : ℕ). StandsFor c.after.result (substitute P (change old.inner.setup.plan.rule a))) h.1 (c.after.ensures P st)) refl c.standing.ensures;
     }

@@ -11,6 +11,6 @@ returns c =
       count = refl;
       residual = refl;
       tells = λ m cs decided stands counted.
-          tells m s decided c.args.residual cs stands c.to_values-table.result c.to_values-table.ensures c.has-kept.result c.for_good-settled.result c.has-kept.ensures
-          (c.for_good-settled.ensures (moves_of s.plan.rule (vectors s.possible)) s.exact) _ c.verdict_of.ensures c.finality_of.ensures counted refl;
+          tells m s decided c.args.now.residual cs stands c.to_values-table.result c.to_values-table.ensures c.has-kept.result c.for_good-settled.result c.has-kept.ensures
+          (c.for_good-settled.ensures (moves_of s.plan.rule (vectors s.possible)) s.exact) _ c.from.ensures c.from-2.ensures counted refl;
     }

@@ -7,9 +7,9 @@ use Rattle.progression.specs.Progress.{nothing, later, fresh}
 use Rattle.progression.proofs.Tabled.{root_number}
 use Rattle.progression.proofs.plan.Plan.fresh.Goals as goal
 
-pub returns-then-self-gt-MOST : goal.returns-then-self-gt-MOST
+pub returns-then-self-gt-MOST_OBLIGATIONS : goal.returns-then-self-gt-MOST_OBLIGATIONS
 unfolding fresh nothing
-returns-then-self-gt-MOST c s l =
+returns-then-self-gt-MOST_OBLIGATIONS c s l =
     let p = c.args.self.now in
     let r = p.rule in
     let many : 8 < obligations r = omega (arith, p.counted) in

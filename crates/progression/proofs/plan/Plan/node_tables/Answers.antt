@@ -12,8 +12,8 @@ use Rattle.progression.proofs.Decoded.{node_below}
 use Rattle.progression.proofs.Tabled.{node_more}
 use Rattle.progression.proofs.plan.Plan.node_tables.Goals as goal
 
-pub node_table-table-requires : goal.node_table-table-requires
-node_table-table-requires c =
+pub node_table-requires : goal.node_table-requires
+node_table-requires c =
     let r = c.args.self.now.rule in
     let j = c.loop-j.j in
     let low : j < node_count r = omega (arith, c.nodes-nodes.ensures.long) in
@@ -25,12 +25,12 @@ loop-j-preserved c =
     let p = c.args.self.now in
     let a = c.args.letters in
     let j = c.loop-j.j in
-    let x = c.node_table-table.result in
+    let x = c.node_table.result in
     let low : j < node_count p.rule = omega (arith, c.nodes-nodes.ensures.long) in
     let node : Node = node_at c.nodes-nodes.result.now j in
     let same : node ≡ node_of p.rule j = ap (λ (ns : List Node). node_at ns j) c.nodes-nodes.ensures.same in (
       length-set c.loop-j.tables j x ∙ c.loop-j.invariant.0,
       store_more (λ k y. (v : ℕ) → v < 256 → vectors y v ≡ value (poly_at p.rule a k) v) c.loop-j.tables j x (record { bits = no_bits })
           (omega (arith, p.rule.few, c.loop-j.invariant.0)) c.loop-j.invariant.1
-          (node_more p a c.loop-j.tables j low c.loop-j.invariant.1 node same x c.node_table-table.ensures),
+          (node_more p a c.loop-j.tables j low c.loop-j.invariant.1 node same x c.node_table.ensures),
     )

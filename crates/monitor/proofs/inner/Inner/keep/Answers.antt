@@ -1,9 +1,0 @@
-use Rattle.std.proofs.Common.{refl, arith}
-use Rattle.monitor.specs.Monitored.{subject}
-use Rattle.monitor.proofs.Calls.{keep_serves}
-use Rattle.monitor.proofs.inner.Inner.keep.Goals as goal
-
-pub returns : goal.returns
-returns c m =
-    let old = c.args.self.now in
-    keep_serves (subject m old.setup) old _ c.standing.result (omega arith) refl refl refl refl refl (c.standing.ensures m)
