@@ -1,6 +1,7 @@
 -- The places of a set that the worth of a list is. Assumes nothing.
-use Rattle.std.proofs.Common.{◌≡◌, ℕ, zero, suc, ◌+◌, ◌*◌, ◌/◌, ◌%◌, ◌^◌, ◌<◌, min, Bool, true, false, cond, eqb, List, [], ◌∷◌, length, get_or, take, sym, refl, ap, ◌∙◌, ap₂, mul_assoc, one-mul, mul-zero, mul-one, mul-add, div-one, arith, pow-add}
+use Rattle.std.proofs.Common.{◌≡◌, ℕ, zero, suc, ◌+◌, ◌*◌, ◌/◌, ◌%◌, ◌^◌, ◌<◌, ◌≤◌, min, Bool, true, false, cond, eqb, List, [], ◌∷◌, length, get_or, take, sym, refl, ap, ◌∙◌, ap₂, mul_assoc, one-mul, mul-zero, mul-one, mul-add, div-one, arith, pow-add}
 use native.Mathlib.Nat.{div-div-eq-div-mul, pow-succ'}
+use Rattle.std.proofs.Math.Nat.{div-eq_of_lt, pow-le-pow_right}
 use lib.Bits.{bit_and, and_step}
 use Rattle.std.proofs.lemmas.List.{get_or-take, length-take}
 use Rattle.std.proofs.lemmas.Bool.{eq-eqb, ne_eqb}
@@ -48,6 +49,12 @@ pub worth_place : (p : ℕ → Bool) (ns : List ℕ) (i : ℕ) → i < 8 → i <
 worth_place p ns i few here =
     let within : i < length (take 8 ns) = omega (arith, length-take 8 ns) in
     ap (λ v. eqb (v / 2 ^ i % 2) 1) (worth_whole p (take 8 ns)) ∙ bit p (take 8 ns) i within ∙ ap p (get_or-take 8 ns i 0 few)
+
+-- a byte has no place from 8 on
+pub no_place : (set i : ℕ) → set < 256 → 8 ≤ i → eqb (set / 2 ^ i % 2) 1 ≡ false
+no_place set i byte high =
+    let small : set < 2 ^ i = omega (arith, byte, pow-le-pow_right {n = 2} (omega arith) high) in
+    ap (λ v. eqb (v % 2) 1) (div-eq_of_lt small)
 
 lows : (k : Mark) (x y : ℕ) → min ((cond (is_on k) 1 0 + 2 * x) % 2) ((cond (in_doubt k) 1 0 + 2 * y) % 2) ≡ 0
 lows Off x y = omega arith

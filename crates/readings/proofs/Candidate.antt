@@ -1,7 +1,7 @@
 -- A panel: a set is possible just where it spreads to itself. Assumes nothing.
-use Rattle.std.proofs.Common.{◌≡◌, ℕ, zero, suc, ◌+◌, ◌-◌, ◌/◌, ◌%◌, ◌<◌, ◌≤◌, min, Bool, true, false, ◌&&◌, eqb, ltb, leb, List, [], ◌∷◌, length, get_or, take, Decides, sym, refl, ap, ◌∙◌, subst, ap₂, ⊎_elim, add-one, arith}
+use Rattle.std.proofs.Common.{◌≡◌, ℕ, zero, suc, ◌+◌, ◌-◌, ◌/◌, ◌%◌, ◌<◌, ◌≤◌, min, Bool, true, false, ◌&&◌, eqb, ltb, leb, List, [], ◌∷◌, length, get_or, take, Decides, sym, refl, ap, ◌∙◌, subst, ap₂, ⊎_elim, arith}
 use Rattle.std.proofs.lemmas.List.{get_or-take, length-take}
-use Rattle.std.proofs.lemmas.Bool.{and_from, and_left, and_right, cases_lt, cond-true, cond-false, or_from, lt-ltb, le-ltb, le-leb, lt-leb}
+use Rattle.std.proofs.lemmas.Bool.{and_from, and_left, and_right, cases_lt, cond-true, cond-false, lt-ltb, le-ltb, le-leb, lt-leb}
 use Rattle.std.proofs.lemmas.Bool.Decides.{Decides-and, Decides-below_or, Decides-eqb, same_from_decides}
 use Rattle.readings.specs.Meaning.{Meaning, mark_of, is_on, in_doubt, on_set, doubt_set, worth, Possible}
 use Rattle.readings.specs.Panel.{has, told, panel_over, asked, asks, spread_of}
@@ -75,10 +75,6 @@ module _ (ns : List ℕ) (set : ℕ) where
   asked_decides n k =
       Decides-below_or (λ i. eqb (get_or ns i 0) n && has set i) (λ i. (get_or ns i 0 ≡ n) × (has set i ≡ true)) (asked ns set n)
       (λ i. Decides-and _ _ (Decides-eqb (get_or ns i 0) n) (λ e. e, λ e. e)) refl (λ _. refl) k
-
-  pub asked_more : (n k : ℕ) → (eqb (get_or ns k 0) n && has set k) ≡ false → asked ns set n k ≡ false → asked ns set n (k + 1) ≡ false
-  unfolding asked
-  asked_more n k here before = rw add-one (or_from (eqb (get_or ns k 0) n && has set k) (asked ns set n k) here before)
 
   -- the levels in which just those names are on that the set asks for
   levels : ℕ

@@ -1,5 +1,6 @@
 pub mod Bits
 pub mod Candidate
+pub mod Found
 pub mod Gathering
 pub mod Marks
 pub mod Worths

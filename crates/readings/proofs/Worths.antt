@@ -1,5 +1,5 @@
 -- The worth of a list's places, one place at a time. Assumes nothing.
-use Rattle.std.proofs.Common.{◌≡◌, ℕ, suc, ◌+◌, ◌*◌, ◌^◌, ◌<◌, ◌≤◌, min, Bool, true, false, cond, List, [], ◌∷◌, ◌++◌, length, get_or, take, sym, refl, ap, ◌∙◌, ap₂, ⊎_elim, arith, pow-add}
+use Rattle.std.proofs.Common.{◌≡◌, ℕ, suc, ◌+◌, ◌^◌, ◌<◌, ◌≤◌, min, Bool, true, false, cond, List, [], ◌∷◌, ◌++◌, length, get_or, take, sym, refl, ap, ◌∙◌, ap₂, ⊎_elim, arith, pow-add}
 use Rattle.std.proofs.lemmas.Bool.{cases_lt}
 use Rattle.std.proofs.lemmas.List.{take_more, length-take-le, take_all}
 use Rattle.readings.specs.Meaning.{worth}
@@ -27,14 +27,6 @@ worth_next p xs i w v within is so =
 pub cond_most : (b : Bool) (w : ℕ) → cond b w 0 ≤ w
 cond_most true w = omega arith
 cond_most false w = omega arith
-
-pub twice : (i w : ℕ) → w ≡ 2 ^ i → w * 2 ≡ 2 ^ (i + 1)
-twice i w is = omega (arith, is, pow-add 2 i 1)
-
--- a set grows by what its next place is worth
-pub gain : (p : ℕ → Bool) (xs : List ℕ) (i w v r : ℕ) (b : Bool) → i < length xs → w ≡ 2 ^ i → v < w → v ≡ worth p 0 (take i xs) → b ≡ p (get_or xs i 0) → r ≡ cond b w 0 → (v + r < w * 2) × (v + r ≡ worth p 0 (take (i + 1) xs))
-gain p xs i w v r b within is small so test gained =
-    (omega (arith, gained, cond_most b w), ap (λ n. v + n) (gained ∙ ap (λ t. cond t w 0) test) ∙ worth_next p xs i w v within is so)
 
 -- the first eight, or all where there are fewer
 pub first_eight : (xs : List ℕ) (i : ℕ) → min (length xs) 8 ≤ i → i ≤ min (length xs) 8 → take i xs ≡ take 8 xs

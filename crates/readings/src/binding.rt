@@ -7,6 +7,7 @@ ghost use Rattle.readings.specs.Binding.{unbound, numbers_for, numbers_of};
 
 use crate::bound::BoundRule;
 use crate::reading::Reading;
+use crate::set::PLACES;
 use rules::{Fault, Rule};
 
 impl<R: Reading> BoundRule<R> {
@@ -15,11 +16,9 @@ impl<R: Reading> BoundRule<R> {
         ensures { result ≡ answer (unbound (R.meaning reading.now) (letters_of rule.now)) (letter_count rule.now) }
     {
         let letters = rule.letters();
-        for i in 0..letters.len() {
-            let letter = letters[i];
-            if reading.find(letter.name.text()).is_none() {
-                return Err(Fault::AbsentName(letter.at));
-            }
+        for letter in letters {
+            let found = reading.find(letter.name.text());
+            found.ok_or(Fault::AbsentName(letter.at))?;
         }
         Ok(letters.len())
     }
@@ -85,10 +84,9 @@ impl<R: Reading> BoundRule<R> {
 fn numbers_for<R: Reading>(rule: &Rule, reading: &R) -> [u8; 8]
     ensures { take (letter_count rule.now) result ≡ numbers_for (R.meaning reading.now) (letters_of rule.now) }
 {
-    let mut numbers = [0; 8];
+    let mut numbers = [0; PLACES];
     let letters = rule.letters();
-    for i in 0..letters.len() {
-        let letter = letters[i];
+    for (i, letter) in letters.iter().enumerate() {
         numbers[i] = reading.find(letter.name.text()).unwrap_or(0);
     }
     numbers

@@ -1,9 +1,11 @@
 // A rule with the number that its reading gives each letter. Only such a rule can be judged on a trace.
+// The numbers are an array as long as a rule can need, since the library has no heap.
+use crate::set::PLACES;
 use rules::Rule;
 
 #[derive(Drop)]
 pub struct BoundRule<R> {
     pub(crate) reading: R,
     pub(crate) rule: Rule,
-    pub(crate) numbers: [u8; 8],
+    pub(crate) numbers: [u8; PLACES],
 }

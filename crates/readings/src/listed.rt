@@ -1,4 +1,4 @@
-// A list of names, numbered in order.
+// A list of names, numbered in order: an array and a count, since the library has no heap.
 ghost use Rattle.std.specs.Prelude.{◌≡◌, ◌≤◌, length};
 
 use rules::Name;

@@ -32,12 +32,8 @@ impl<const MOST: usize> NameList<MOST> {
     fn place(&self, name: &[u8]) -> Option<usize>
         ensures { MatchOption result (find_in (spellings self.now) name.now ≡ None) (λ i. (i < self.now.count) × (find_in (spellings self.now) name.now ≡ Some (i + 1))) }
     {
-        for i in 0..self.count {
-            if same_name(self.names[i].text(), name) {
-                return Some(i);
-            }
-        }
-        None
+        let mut names = self.names[..self.count].iter();
+        names.position(|known| same_name(known.text(), name))
     }
 
     // The number of a name, from 1 on. A number is a byte.

@@ -9,8 +9,8 @@ use crate::listed::NameList;
 use crate::mark::Mark;
 use crate::named::Named;
 use crate::panel::{NAMES, Panel};
-use crate::reading::{MOST, Reading, gained};
-use crate::set::has;
+use crate::reading::Reading;
+use crate::set::{has, set_of};
 use rules::Fault;
 
 // The number of codes.
@@ -24,14 +24,10 @@ impl Panel {
     fn spread(&self, names: &[u8], set: u8) -> u8
         ensures { result ≡ spread_of (length (spellings self.now.list)) names.now set }
     {
-        let mut on: u16 = 0;
-        let mut worth: u16 = 1;
-        for i in 0..names.len().min(MOST) {
-            let name = names[i];
-            on += gained(self.list.has(name) & is_asked(names, set, name), worth);
-            worth *= 2;
-        }
-        on as u8
+        set_of(
+            names,
+            |name| self.list.has(name) && is_asked(names, set, name),
+        )
     }
 }
 
@@ -52,12 +48,8 @@ fn told_mark(answer: bool, level: bool) -> Mark
 fn is_asked(names: &[u8], set: u8, name: u8) -> bool
     ensures { result ≡ asked names.now set name (min (length names.now) 8) }
 {
-    for i in 0..names.len().min(MOST) {
-        if names[i] == name && has(set, i) {
-            return true;
-        }
-    }
-    false
+    let mut places = names.iter().enumerate();
+    places.any(|(i, other)| *other == name && has(set, i))
 }
 
 impl Reading for Panel {

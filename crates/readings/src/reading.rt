@@ -3,15 +3,7 @@ ghost use Rattle.std.specs.Prelude.{◌≡◌, ℕ, ◌<◌, ◌≤◌, List, if
 ghost use Rattle.readings.specs.Meaning.{Meaning, mark_of, on_set, doubt_set, Possible};
 
 use crate::mark::Mark;
-
-// A reading counts at most this many entries of a list.
-pub(crate) const MOST: usize = 8;
-
-pub(crate) fn gained(set: bool, worth: u16) -> u16
-    ensures { result ≡ (if set then worth else 0) }
-{
-    if set { worth } else { 0 }
-}
+use crate::set::set_of;
 
 pub trait Reading {
     ghost meaning: { Self → Meaning };
@@ -34,29 +26,16 @@ pub trait Reading {
         ensures doubt { result.1 ≡ doubt_set (meaning self.now) code names.now }
         ensures apart { bit_and result.0 result.1 ≡ 0 }
     {
-        let mut on: u16 = 0;
-        let mut doubt: u16 = 0;
-        let mut worth: u16 = 1;
-        for i in 0..names.len().min(MOST) {
-            let mark = self.mark(code, names[i]);
-            on += gained(mark == Mark::On, worth);
-            doubt += gained(mark == Mark::Doubt, worth);
-            worth *= 2;
-        }
-        (on as u8, doubt as u8)
+        let on = set_of(names, |name| self.mark(code, name) == Mark::On);
+        let doubt = set_of(names, |name| self.mark(code, name) == Mark::Doubt);
+        (on, doubt)
     }
 
     // Whether some code shows just this set on, and nothing in doubt. This tries every code.
     fn possible(&self, names: &[u8], set: u8) -> bool
         ensures { Decides result (Possible (meaning self.now) names.now set) }
     {
-        for code in 0..self.codes() {
-            let (on, doubt) = self.show(code, names);
-            if on == set && doubt == 0 {
-                return true;
-            }
-        }
-        false
+        (0..self.codes()).any(|code| self.show(code, names) == (set, 0))
     }
 
     // There is a code.

@@ -1,10 +1,10 @@
-use Rattle.std.proofs.Common.{◌≡◌, ℕ, ◌+◌, ◌<◌, true, false, List, [], ◌∷◌, ◌++◌, map, length, get_or, take, is_some, Some, None, Ok, Err, Option, MatchOption, sym, ap, subst, ◌∙◌, ap₂, arith, rules, Bor}
-use Rattle.std.specs.Option.{ok_or}
+use Rattle.std.proofs.Common.{◌≡◌, ℕ, ◌+◌, ◌<◌, true, false, List, [], ◌∷◌, ◌++◌, map, length, get_or, take, is_some, Some, None, Option, MatchOption, sym, ap, ◌∙◌, ap₂, arith, rules, Bor}
 use Rattle.std.proofs.lemmas.List.{take_more, take_all}
 use Rattle.rules.specs.Names.{spelled}
 use Rattle.rules.specs.Signs.{is_name}
 use Rattle.rules.proofs.First.{first_start, first_more}
 use Rattle.readings.specs.Listed.{lent, name_at, find_in, refused_names, wrong_at}
+use Rattle.readings.proofs.Found.{left_out, let_in}
 use Rattle.readings.proofs.Gathering.{lent_length, lent_at, too_many, wrong_first, none_wrong, no_name, repeated, fine}
 use Rattle.readings.proofs.listed.NameList.gather.Goals as goal
 
@@ -16,15 +16,6 @@ returns-then-names g c =
 pub loop-i-init : goal.loop-i-init
 loop-i-init g c =
     (c.empty-list.ensures, ap (λ k. map spelled (take k c.empty-list.result.names)) c.empty-list.ensures, first_start (wrong_at (lent c.args.names.now)))
-
--- what `ok_or` refuses was not there, and what it lets through was
-left_out : {X Y : Type 0} (P : Type 0) (Q : X → Type 0) (o : Option X) (e f : Y) → MatchOption o P Q → ok_or o e ≡ Err f → P × (e ≡ f)
-left_out P Q None e f h is = (h, cc)
-left_out P Q (Some x) e f h is = let z : ◌≡◌ {A = ℕ} 0 1 = cc in absurd (omega arith)
-
-let_in : {X Y : Type 0} (P : Type 0) (Q : X → Type 0) (o : Option X) (e : Y) (x : X) → MatchOption o P Q → ok_or o e ≡ Ok x → Q x
-let_in P Q None e x h is = let z : ◌≡◌ {A = ℕ} 0 1 = cc in absurd (omega arith)
-let_in P Q (Some y) e x h is = let same : y ≡ x = cc in subst Q same h
 
 pub returns-in_err-name : goal.returns-in_err-name
 returns-in_err-name g c =
