@@ -7,6 +7,7 @@ use Rattle.verdicts.specs.Case.{Case, verdict}
 use Rattle.verdicts.specs.declared.scale.YesNo.{YesNo}
 use Rattle.claims.specs.Ways.{ways_at, verdict_of, sign_of, stands, given}
 use Rattle.claims.specs.Claims.{claim_at, meant, checked, wrong}
+use Rattle.claims.specs.Any.{ToEach}
 use Rattle.claims.specs.declared.claim.Claim.{Claim}
 use Rattle.claims.specs.declared.claim.Sign.{Sign}
 use Rattle.claims.specs.declared.claim.Sign.TheVariants.{Holds, Fails}
@@ -79,9 +80,7 @@ OfGrounds P (One x) = P x
 OfGrounds P (Both x y) = P x × P y
 
 abbrev pub OfWays : (Fact → Type 0) → Ways → Type 0
-OfWays P Never = Unit {0}
-OfWays P (By g) = OfGrounds P g
-OfWays P (Either g h) = OfGrounds P g × OfGrounds P h
+OfWays P = ToEach (OfGrounds P)
 
 -- WHY THE WRITING IS REFUSED, with room for so many claims
 unfoldable pub unwritten : Case → ℕ → Option Fault

@@ -3,25 +3,17 @@ ghost use Rattle.std.specs.Prelude.{◌≤◌, vec_len};
 
 use crate::answer::{Answer, Report};
 use crate::stop::Stop;
-use claims::{Claim, Sign, write};
+use claims::{Claim, write};
 use readings::{BoundRule, Reading};
-use rules::Fault;
+use rules::{Fault, MOST_NODES};
 use std::alloc::Global;
 use verdicts::{Scale, YesNo, evaluate, valuate};
 
 // The most claims that are printed.
 const CLAIMS: usize = 3200;
 
-// Two values for each of a rule's nodes, of which there are at most 64.
-const SCRATCH: usize = 128;
-
-const BLANK: Claim = Claim {
-    place: 0,
-    node: 0,
-    sign: Sign::Fails,
-    first: 0,
-    second: 0,
-};
+// Two values for each of a rule's nodes.
+const SCRATCH: usize = 2 * MOST_NODES;
 
 #[derive(Drop)]
 pub(crate) struct Log<R> {
@@ -52,7 +44,7 @@ impl<R: Reading> Log<R> {
         if total > CLAIMS {
             return Err(Stop::Whole(Fault::ShortBuffer(total)));
         }
-        let mut claims = vec![in heap; BLANK; total]?;
+        let mut claims = vec![in heap; Claim::BLANK; total]?;
         write(&self.bound, &self.trace, &mut claims)?;
         Ok(claims)
     }

@@ -3,8 +3,8 @@ ghost use Rattle.std.specs.Prelude.{◌≡◌, ◌+◌, ◌<◌, ◌||◌, lengt
 ghost use Rattle.rules.specs.Tree.{node_at};
 ghost use Rattle.progression.specs.Obligations.{unary_lasts, binary_lasts, unary_looks, lasts as lasting, looks_at, any_below};
 
-use crate::plan::{MOST_NODES, MOST_OBLIGATIONS, Plan};
-use rules::{Binary, Node, Rule, Unary};
+use crate::plan::{MOST_OBLIGATIONS, Plan};
+use rules::{Binary, MOST_NODES, Node, Rule, Unary};
 
 // Whether a node's value at an event takes in its own value after the event.
 fn lasts(node: Node) -> bool

@@ -6,10 +6,9 @@ ghost use Rattle.polynomials.specs.Sets.{in_set};
 ghost use Rattle.progression.specs.Progress.{letters_in};
 ghost use Rattle.progression.specs.Tables.{bools, TruthTable};
 
-use crate::plan::MOST_NODES;
 use polynomials::{Residual, VectorSet};
 use readings::has;
-use rules::{Binary, Node, Unary};
+use rules::{Binary, MOST_NODES, Node, Unary};
 
 // A function and no `From`: neither type is this crate's.
 fn constant(v: bool) -> VectorSet

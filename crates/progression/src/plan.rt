@@ -3,13 +3,10 @@ ghost use Rattle.std.specs.Prelude.{◌≡◌, ℕ, ◌<◌, length, slice_index
 ghost use Rattle.rules.specs.Rules.{node_count, nodes_of};
 ghost use Rattle.progression.specs.Obligations.{obligations, number, place};
 
-use rules::Rule;
+use rules::{MOST_NODES, Rule};
 
 // The most obligations of a rule that is monitored.
 pub const MOST_OBLIGATIONS: usize = 8;
-
-// The most nodes of a rule.
-pub(crate) const MOST_NODES: usize = 64;
 
 // How many obligations there are; for each node the number of the obligation that it is, or else of the next one; and the nodes
 // of the first eight. Tables of fixed sizes and no `Vec`: no heap.

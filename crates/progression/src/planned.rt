@@ -9,9 +9,9 @@ ghost use Rattle.progression.specs.Obligations.{node_of, obligations, place};
 ghost use Rattle.progression.specs.Progress.{at_end, fresh as fresh_of};
 ghost use Rattle.progression.specs.Tables.{StandsFor};
 
-use crate::plan::{MOST_NODES, MOST_OBLIGATIONS, Plan};
+use crate::plan::{MOST_OBLIGATIONS, Plan};
 use polynomials::Residual;
-use rules::Rule;
+use rules::{MOST_NODES, Rule};
 use verdicts::{YesNo, evaluate};
 
 // Two rows of values, as an evaluation asks for.

@@ -7,8 +7,9 @@ ghost use Rattle.progression.specs.Progress.{change};
 ghost use Rattle.progression.specs.Tables.{TruthTable, StandsFor, Tabled, Changes};
 
 use crate::operators::node_table;
-use crate::plan::{MOST_NODES, MOST_OBLIGATIONS, Plan};
+use crate::plan::{MOST_OBLIGATIONS, Plan};
 use polynomials::{Residual, VectorSet};
+use rules::MOST_NODES;
 use std::array;
 
 impl Plan {

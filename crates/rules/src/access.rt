@@ -7,7 +7,7 @@ ghost use Rattle.rules.specs.declared.node.Node.TheVariants.{Truth};
 
 use crate::name::Name;
 use crate::node::Node;
-use crate::rule::{LETTERS, Letter, NODES, Rule, Table};
+use crate::rule::{MOST_LETTERS, Letter, MOST_NODES, Rule, Table};
 
 impl Table {
     // A table of no nodes and no letters.
@@ -20,9 +20,9 @@ impl Table {
             at: 0,
         };
         Table {
-            nodes: [Node::Truth(true); NODES],
+            nodes: [Node::Truth(true); MOST_NODES],
             size: 0,
-            letters: [letter; LETTERS],
+            letters: [letter; MOST_LETTERS],
             count: 0,
         }
     }

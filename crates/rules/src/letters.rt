@@ -7,7 +7,7 @@ ghost use Rattle.rules.specs.declared.sign.Why.TheVariants.{ManyLetters};
 use crate::lex::skip;
 use crate::name::Name;
 use crate::names::same_name;
-use crate::rule::{LETTERS, Letter, Table};
+use crate::rule::{MOST_LETTERS, Letter, Table};
 use crate::sign::{Stop, Why};
 
 impl Letter {
@@ -45,7 +45,7 @@ impl Table {
         if let Some(i) = find(&self.letters[..count], &name) {
             return Ok(i as u8);
         }
-        if count == LETTERS {
+        if count == MOST_LETTERS {
             return Err(Stop::at(Why::ManyLetters, s));
         }
         self.letters[count] = letter_at(total, s, name);

@@ -22,4 +22,4 @@ pub use fault::{Fault, Layer};
 pub use name::Name;
 pub use names::same_name;
 pub use node::{Binary, Node, Unary};
-pub use rule::{Letter, Rule};
+pub use rule::{Letter, MOST_LETTERS, MOST_NODES, Rule};

@@ -10,7 +10,7 @@ ghost use Rattle.rules.specs.declared.sign.Why.TheVariants.{ManyNodes};
 
 use crate::lex::next_sign;
 use crate::node::{Binary, Node};
-use crate::rule::{NODES, Table};
+use crate::rule::{MOST_NODES, Table};
 use crate::sign::{Sign, Stop, Why};
 use crate::spot::Spot;
 
@@ -63,7 +63,7 @@ impl Spot {
     fn room(self, s: &[u8], table: &Table) -> Result<(), Stop>
         ensures { MatchResult result (λ _. table.now.size + self.pending < 64) (λ f. (64 ≤ table.now.size + self.pending) × (f ≡ stop_at ManyNodes s.now)) }
     {
-        if self.pending >= NODES - table.size {
+        if self.pending >= MOST_NODES - table.size {
             return Err(Stop::at(Why::ManyNodes, s));
         }
         Ok(())

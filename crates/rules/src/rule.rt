@@ -6,10 +6,10 @@ use crate::name::Name;
 use crate::node::Node;
 
 // The most nodes of a rule.
-pub(crate) const NODES: usize = 64;
+pub const MOST_NODES: usize = 64;
 
 // The most letters of a rule.
-pub(crate) const LETTERS: usize = 8;
+pub const MOST_LETTERS: usize = 8;
 
 // A name of a rule, and the byte of its text at which it first appears.
 #[derive(Clone, Copy, Debug)]
@@ -21,9 +21,9 @@ pub struct Letter {
 // The first `size` nodes and the first `count` letters, each in the order of the text. Buffers with their lengths, since nothing here is on a heap.
 #[derive(Clone, Copy, Debug)]
 pub struct Table {
-    pub(crate) nodes: [Node; NODES],
+    pub(crate) nodes: [Node; MOST_NODES],
     pub(crate) size: usize,
-    pub(crate) letters: [Letter; LETTERS],
+    pub(crate) letters: [Letter; MOST_LETTERS],
     pub(crate) count: usize,
     ghost few: { size ≤ 64 },
     ghost known: { count ≤ 8 },
