@@ -21,6 +21,7 @@ impl Reading for Odd {
         3
     }
 
+    // By `same_name`, which alone compares names.
     fn find(&self, name: &[u8]) -> Option<u8> {
         if same_name(name, b"left") {
             Some(1)
@@ -33,10 +34,8 @@ impl Reading for Odd {
 
     fn mark(&self, code: u32, name: u8) -> Mark {
         match (code, name) {
-            (1, 1) => Mark::On,
-            (1, 2) => Mark::On,
+            (1, 1 | 2) | (2, 2) => Mark::On,
             (2, 1) => Mark::Doubt,
-            (2, 2) => Mark::On,
             _ => Mark::Off,
         }
     }

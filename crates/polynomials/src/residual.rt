@@ -12,6 +12,7 @@ pub struct Residual {
     pub(crate) bits: Bits256,
 }
 
+// Sum and product are named, and no operators, so that products and values are not mixed up.
 impl Residual {
     // The constant 0: no products.
     #[tactic(auto, using(crate::proofs::FourWords::none_held))]

@@ -1,4 +1,4 @@
-// A polynomial for each variable, put in by truth tables.
+// A polynomial for each variable, put in by truth tables. Eight is written as it is: 256 bits are the sets of eight variables, and no limit to choose.
 ghost use Rattle.std.specs.Prelude.{◌≡◌, ℕ, ◌%◌, ◌^◌, ◌<◌, ◌≤◌, ◌&&◌};
 ghost use Rattle.polynomials.specs.Held.{terms, vectors, terms_of, vectors_of};
 ghost use Rattle.polynomials.specs.Polynomial.{Polynomial, value, value_in, substitute as substituted, step as stepped};

@@ -14,7 +14,8 @@ fn spread(x: u64, mask: u64, by: u32) -> u64
     x ^ ((x & mask) << by)
 }
 
-// The six lowest variables: a stage for each, whose mask has the places of the sets without it. Each mask stands here once.
+// The six lowest variables: a stage for each, whose mask has the places of the sets without it. A fold over a table of masks would
+// have as many lines.
 fn word_values(x: u64) -> u64
     ensures { (v : ℕ) → v < 64 → bit_at v result ≡ value_in 6 (λ s. bit_at s x) v }
 {

@@ -13,6 +13,7 @@ pub struct VectorSet {
     pub(crate) bits: Bits256,
 }
 
+// The operations are named as those of the library's sets.
 impl VectorSet {
     #[tactic(auto, using(crate::proofs::FourWords::none_held))]
     pub fn empty() -> VectorSet

@@ -7,8 +7,7 @@ ghost use Rattle.readings.specs.Binding.{unbound, numbers_for, numbers_of};
 
 use crate::bound::BoundRule;
 use crate::reading::Reading;
-use crate::set::PLACES;
-use rules::{Fault, Rule};
+use rules::{Fault, MOST_LETTERS, Rule};
 
 impl<R: Reading> BoundRule<R> {
     // How many letters the rule has, or the first that the reading does not know.
@@ -54,11 +53,11 @@ impl<R: Reading> BoundRule<R> {
         ensures value { result.now ≡ numbers_of self.now }
         ensures long { length result.now ≡ letter_count self.now.rule }
     {
-        &self.numbers[0..self.rule.letters().len()]
+        &self.numbers[..self.rule.letters().len()]
     }
 
     // The reading, the rule, and the number of each letter; what lies past the rule's letters says nothing.
-    pub fn into_parts(self) -> (R, Rule, [u8; 8])
+    pub fn into_parts(self) -> (R, Rule, [u8; MOST_LETTERS])
         ensures reading { result.0 ≡ self.reading }
         ensures rule { result.1 ≡ self.rule }
         ensures numbers { take (letter_count result.1) result.2 ≡ numbers_of self }
@@ -81,10 +80,10 @@ impl<R: Reading> BoundRule<R> {
     }
 }
 
-fn numbers_for<R: Reading>(rule: &Rule, reading: &R) -> [u8; 8]
+fn numbers_for<R: Reading>(rule: &Rule, reading: &R) -> [u8; MOST_LETTERS]
     ensures { take (letter_count rule.now) result ≡ numbers_for (R.meaning reading.now) (letters_of rule.now) }
 {
-    let mut numbers = [0; PLACES];
+    let mut numbers = [0; MOST_LETTERS];
     let letters = rule.letters();
     for (i, letter) in letters.iter().enumerate() {
         numbers[i] = reading.find(letter.name.text()).unwrap_or(0);

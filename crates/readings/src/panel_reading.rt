@@ -86,6 +86,7 @@ impl Reading for Panel {
 }
 
 impl Named for Panel {
+    // The promise says the number, whatever the code has for it.
     ghost most = { 8 };
 
     ghost listed = { λ p. spellings p.list };

@@ -15,7 +15,7 @@ pub fn has(set: u8, i: usize) -> bool
 // The set of the places where a list's entries pass.
 pub(crate) fn set_of<F: Fn(u8) -> bool>(entries: &[u8], passes: F) -> u8
     requires { (n : ℕ) → n < 256 → F.pre passes n }
-    ensures { (p : ℕ → Bool) → ((n : ℕ) (b : Bool) → n < 256 → F.post passes n b → b ≡ p n) → result ≡ worth p 0 (take 8 entries.now) }
+    ensures { (p : ℕ → Bool) → ((n : ℕ) (b : Bool) → n < 256 → F.post passes n b → b ≡ p n) → result ≡ worth p 0 (take PLACES entries.now) }
 {
     let counted = &entries[..entries.len().min(PLACES)];
     let mut set = 0;

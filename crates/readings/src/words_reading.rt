@@ -42,6 +42,7 @@ impl Reading for Words {
 }
 
 impl Named for Words {
+    // The promise says the number, whatever the code has for it.
     ghost most = { 32 };
 
     ghost listed = { λ w. spellings w.list };

@@ -17,6 +17,7 @@ fn end_row<S: Scale>(rule: &Rule, here: &mut [S])
     requires { length here.old ≡ node_count rule.now }
     ensures { Valued S.ops (nodes_of rule.now) here.new [] (node_count rule.now) }
 {
+    // Written by index: a node's value is made from those before it.
     for (i, node) in rule.nodes().iter().enumerate() {
         here[i] = node_end(*node, here);
     }
@@ -29,6 +30,7 @@ fn row<S: Scale>(rule: &Rule, letters: &[S], next: &[S], here: &mut [S])
     requires here_len { length here.old ≡ node_count rule.now }
     ensures { (rs : List (List S)) → Valued S.ops (nodes_of rule.now) next.now rs (node_count rule.now) → Valued S.ops (nodes_of rule.now) here.new (letters.now ∷ rs) (node_count rule.now) }
 {
+    // Written by index, as above.
     for (i, node) in rule.nodes().iter().enumerate() {
         here[i] = node_row(*node, letters, here, next, next[i]);
     }

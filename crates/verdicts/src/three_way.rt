@@ -27,6 +27,7 @@ impl From<YesNo> for ThreeWay {
 }
 
 impl YesNo {
+    // The same, as a method.
     pub fn three_way(self) -> ThreeWay
         ensures { result ≡ in_three self }
     {
