@@ -1,4 +1,7 @@
 // Calls on a monitor, by a book of the events that stand and the marks.
+ghost use Rattle.std.specs.Prelude.{Some};
+ghost use Rattle.reference.specs.Printed.{finality_words};
+
 use crate::bound::Bound;
 use crate::formula::Formula;
 use crate::grade::Grade;
@@ -29,6 +32,8 @@ pub enum Finality {
 }
 
 impl fmt::Display for Finality {
+    ghost output = { λ x. Some (finality_words x) };
+
     fn fmt<W: fmt::Write>(&self, f: &mut fmt::Formatter<W>) -> fmt::Result {
         f.write_str(match self {
             Finality::SoFar => "so far",

@@ -1,4 +1,8 @@
 // Claims: which are supported, and those that are written.
+ghost use Rattle.std.specs.Prelude.{◌≡◌, Some};
+ghost use Rattle.reference.specs.Cases.{contrary};
+ghost use Rattle.reference.specs.Printed.{claim_fields};
+
 use crate::formula::{Formula, Node};
 use crate::grade::Grade;
 use crate::meaning::{Record, Values};
@@ -41,8 +45,13 @@ impl Said {
 impl Not for Said {
     type Output = Said;
 
+    ghost not_gives = { λ s r. r ≡ contrary s };
+
     fn not(self) -> Said {
-        self.here(self.node, !self.holds)
+        Said {
+            holds: !self.holds,
+            ..self
+        }
     }
 }
 
@@ -55,6 +64,8 @@ pub struct Claimed {
 }
 
 impl fmt::Display for Claimed {
+    ghost output = { λ c. Some (claim_fields c) };
+
     fn fmt<W: fmt::Write>(&self, f: &mut fmt::Formatter<W>) -> fmt::Result {
         let place = self.said.place;
         let node = self.said.node;

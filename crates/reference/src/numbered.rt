@@ -1,6 +1,6 @@
 // Lists whose entries are numbered from 1.
 
 // The entry of this number, if there is one.
-pub fn numbered<T>(list: &[T], number: usize) -> Option<&T> {
+pub(crate) fn numbered<T>(list: &[T], number: usize) -> Option<&T> {
     list.get(number.checked_sub(1)?)
 }

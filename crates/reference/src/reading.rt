@@ -1,4 +1,7 @@
 // What the codes of events say of names.
+ghost use Rattle.std.specs.Prelude.{◌≡◌};
+ghost use Rattle.reference.specs.Cases.{code_count};
+
 use crate::bound::Bound;
 use crate::formula::Formula;
 use crate::grade::Grade;
@@ -21,7 +24,9 @@ impl Kind {
         }
     }
 
-    pub fn codes(self) -> u32 {
+    pub fn codes(self) -> u32
+        ensures { result ≡ code_count self }
+    {
         match self {
             Kind::Words => 256,
             Kind::Panel => 65_536,

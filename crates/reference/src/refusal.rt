@@ -1,5 +1,7 @@
 // Why something is refused.
-ghost use Rattle.std.specs.Prelude.{◌≡◌};
+ghost use Rattle.std.specs.Prelude.{◌≡◌, Some};
+ghost use Rattle.reference.specs.Cases.{layer_of};
+ghost use Rattle.reference.specs.Printed.{refusal_fields};
 
 use std::alloc::{AllocError, AllocFailed};
 use std::fmt;
@@ -60,7 +62,9 @@ impl Reason {
 }
 
 impl Refusal {
-    pub fn layer(self) -> Layer {
+    pub fn layer(self) -> Layer
+        ensures { result ≡ layer_of self.reason }
+    {
         match self.reason {
             Reason::NoSign | Reason::LongName => Layer::Signs,
             Reason::LongText
@@ -77,6 +81,8 @@ impl Refusal {
 }
 
 impl fmt::Display for Refusal {
+    ghost output = { λ r. Some (refusal_fields r) };
+
     fn fmt<W: fmt::Write>(&self, f: &mut fmt::Formatter<W>) -> fmt::Result {
         let number = self.reason as u8;
         let layer = self.layer() as u8;

@@ -22,7 +22,7 @@ pub enum Infix {
 }
 
 impl Infix {
-    pub fn groups_right(self) -> bool {
+    pub(crate) fn groups_right(self) -> bool {
         matches!(self, Infix::Until | Infix::Implies)
     }
 }
@@ -67,7 +67,7 @@ pub fn is_blank(b: u8) -> bool {
     matches!(b, b' ' | b'\t')
 }
 
-pub fn begins_word(text: &[u8]) -> bool {
+pub(crate) fn begins_word(text: &[u8]) -> bool {
     text.first().is_some_and(|b| b.is_ascii_alphabetic())
 }
 
