@@ -1,5 +1,5 @@
 // The monitor and its calls.
-ghost use Rattle.std.specs.Prelude.{◌≡◌, ◌<◌, ◌≤◌, Some, None, MatchResult};
+ghost use Rattle.std.specs.Prelude.{◌≡◌, ◌<◌, Some, None, MatchResult};
 ghost use Rattle.rules.specs.First.{answer};
 ghost use Rattle.readings.specs.Meaning.{on_set};
 ghost use Rattle.verdicts.specs.Case.{subject_of};

@@ -150,7 +150,7 @@ impl Book<'_> {
                 self.events.truncate(n);
             }
             Asked::Keep => {
-                let _ = self.unmark()?;
+                self.unmark()?;
             }
             Asked::Standing => {}
         }
@@ -162,7 +162,7 @@ impl Book<'_> {
         self.note(asked)?;
         let told = self.standing()?;
         if matches!(asked, Asked::LookAhead(_)) {
-            let _ = self.events.pop();
+            self.events.pop();
         }
         Ok(told)
     }

@@ -165,8 +165,7 @@ impl Case<'_> {
     // Whether it is about a node of the rule at a place of the record, and is supported.
     fn accepted(&self, formula: &Formula) -> bool {
         let c = self.claim.said;
-        c.place >= 1
-            && c.place <= self.record.places()
+        (1..=self.record.places()).contains(&c.place)
             && numbered(formula.nodes.as_slice(), c.node).is_some_and(|n| self.supported(*n))
     }
 }

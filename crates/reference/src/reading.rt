@@ -97,8 +97,7 @@ impl<'a> Reading<'a> {
     }
 
     fn has_mark(&self, mark: Grade, code: u32, number: usize) -> bool {
-        number >= 1
-            && number <= self.names.len()
+        (1..=self.names.len()).contains(&number)
             && code < self.kind.codes()
             && self.kind.mark(code, number) == mark
     }

@@ -115,10 +115,9 @@ pub fn residue(
     obligations: &[usize],
     events: &[Set],
 ) -> Result<Vec<bool>, AllocError> {
-    let sets = 1usize << obligations.len().min(8);
     let mut table = Vec::new(heap);
-    for bits in (0..=u8::MAX).take(sets) {
-        let mut set = Set(u64::from(bits));
+    for bits in 0..1 << obligations.len().min(8) {
+        let mut set = Set(bits);
         for letters in events.iter().rev() {
             set = before(heap, formula, obligations, *letters, set)?;
         }
