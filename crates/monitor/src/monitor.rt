@@ -46,8 +46,8 @@ impl<R: Reading> Monitor<R> {
         ensures subject { watches R.meaning result ≡ subject_of R.meaning bound }
         ensures stands { Stands (subject_of R.meaning bound) opened result.inner }
     {
+        let possible = possible_sets(bound.reading(), bound.numbers());
         let (reading, rule, names) = bound.into_parts();
-        let possible = possible_sets(&reading, &names[0..rule.letters().len()]);
         let setup = Setup::new(rule, names, possible);
         let now = Point {
             count: 0,

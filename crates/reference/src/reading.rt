@@ -2,6 +2,7 @@
 use crate::bound::Bound;
 use crate::formula::Formula;
 use crate::grade::Grade;
+use crate::numbered::number_of;
 use crate::refusal::{Reason, Refusal, Stop};
 use crate::set::Set;
 use crate::sign::{Sign, begins_word, is_inner, word_sign};
@@ -76,8 +77,7 @@ impl<'a> Reading<'a> {
 
     // The number of a name, from 1.
     pub fn find(&self, name: &[u8]) -> Option<usize> {
-        let i = self.names.iter().position(|n| *n == name)?;
-        Some(i.saturating_add(1))
+        number_of(self.names, |n| *n == name)
     }
 
     // The rule with the number of each letter among the names, or why it cannot be bound.

@@ -1,6 +1,6 @@
 // What a rule leaves to be met, as a truth table over its obligations.
 use crate::formula::{Formula, Node};
-use crate::numbered::numbered;
+use crate::numbered::{number_of, numbered};
 use crate::set::Set;
 use crate::sign::{Infix, Prefix};
 use std::alloc::{AllocError, Global};
@@ -48,10 +48,7 @@ impl Step<'_> {
     }
 
     fn later(&self, j: usize) -> bool {
-        self.obligations
-            .iter()
-            .position(|o| *o == j)
-            .is_some_and(|i| self.later.has(i.saturating_add(1)))
+        number_of(self.obligations, |o| *o == j).is_some_and(|i| self.later.has(i))
     }
 
     fn prefix(&self, j: usize, prefix: Prefix, operand: usize) -> bool {
