@@ -225,17 +225,17 @@ impl Writer<'_> {
     }
 
     // The number of the claim on a node at a place.
-    fn number(&self, said: Said) -> Option<usize> {
+    fn number(&self, said: Said) -> usize {
         let before = self.events.saturating_add(1).saturating_sub(said.place);
-        Some(before.saturating_mul(self.root).saturating_add(said.node))
+        before.saturating_mul(self.root).saturating_add(said.node)
     }
 
     fn one(&self, x: Said) -> Grounds {
-        (self.number(x), None)
+        (Some(self.number(x)), None)
     }
 
     fn two(&self, x: Said, y: Said) -> Grounds {
-        (self.number(x), self.number(y))
+        (Some(self.number(x)), Some(self.number(y)))
     }
 
     // A node with the value `both` exactly if x and y are so: else it rests on the first that is not.
