@@ -1,5 +1,5 @@
 // The monitor and its calls.
-ghost use Rattle.std.specs.Prelude.{◌≡◌, ◌<◌, ◌≤◌, Some, None, MatchResult};
+ghost use Rattle.std.specs.Prelude.{◌≡◌, ◌<◌, Some, None, MatchResult};
 ghost use Rattle.rules.specs.First.{answer};
 ghost use Rattle.readings.specs.Meaning.{on_set};
 ghost use Rattle.verdicts.specs.Case.{subject_of};
@@ -46,8 +46,8 @@ impl<R: Reading> Monitor<R> {
         ensures subject { watches R.meaning result ≡ subject_of R.meaning bound }
         ensures stands { Stands (subject_of R.meaning bound) opened result.inner }
     {
+        let possible = possible_sets(bound.reading(), bound.numbers());
         let (reading, rule, names) = bound.into_parts();
-        let possible = possible_sets(&reading, &names[0..rule.letters().len()]);
         let setup = Setup::new(rule, names, possible);
         let now = Point {
             count: 0,

@@ -12,7 +12,7 @@ use polynomials::VectorSet;
 use progression::{Plan, Transitions};
 use reachable::{Machine, for_good, reachable};
 use readings::Reading;
-use rules::Rule;
+use rules::{MOST_LETTERS, Rule};
 use verdicts::YesNo;
 
 // The sets of letters that some code shows, with nothing in doubt.
@@ -29,7 +29,7 @@ pub(crate) fn possible_sets<R: Reading>(reading: &R, names: &[u8]) -> VectorSet
 }
 
 impl Setup {
-    pub(crate) fn new(rule: Rule, names: [u8; 8], possible: VectorSet) -> Setup
+    pub(crate) fn new(rule: Rule, names: [u8; MOST_LETTERS], possible: VectorSet) -> Setup
         requires { length names ≡ 8 }
         ensures rule { result.plan.rule ≡ rule }
         ensures names { result.names ≡ names }

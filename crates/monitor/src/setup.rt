@@ -6,13 +6,14 @@ ghost use Rattle.progression.specs.Progress.{at_end, moves_of};
 
 use polynomials::VectorSet;
 use progression::Plan;
+use rules::MOST_LETTERS;
 
 // The rule with its obligations, the numbers of its letters, the sets of letters that an event may show, and of the vectors of
 // the obligations' values that of the empty rest and those of all rests.
 #[derive(Clone, Copy)]
 pub struct Setup {
     pub(crate) plan: Plan,
-    pub(crate) names: [u8; 8],
+    pub(crate) names: [u8; MOST_LETTERS],
     pub(crate) possible: VectorSet,
     pub(crate) start: u8,
     pub(crate) reachable: VectorSet,

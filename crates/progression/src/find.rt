@@ -1,7 +1,7 @@
 // Finding the obligations of a rule.
 ghost use Rattle.std.specs.Prelude.{◌≡◌, ◌+◌, ◌<◌, ◌||◌, length, ◌==◌, slice_set};
 ghost use Rattle.rules.specs.Tree.{node_at};
-ghost use Rattle.progression.specs.Obligations.{unary_lasts, binary_lasts, unary_looks, lasts as lasting, looks_at, any_below};
+ghost use Rattle.progression.specs.Obligations.{lasts as lasting, looks_at, any_below};
 
 use crate::plan::{MOST_OBLIGATIONS, Plan};
 use rules::{Binary, MOST_NODES, Node, Rule, Unary};

@@ -1,5 +1,5 @@
 // The operators on truth tables: whether a vector is in a table is the value at that vector.
-ghost use Rattle.std.specs.Prelude.{◌≡◌, ℕ, ◌<◌, slice_index};
+ghost use Rattle.std.specs.Prelude.{◌<◌, slice_index};
 ghost use Rattle.verdicts.specs.Step.{Below, unary_row, binary_row, step_row};
 ghost use Rattle.polynomials.specs.Held.{vectors, vectors_of};
 ghost use Rattle.polynomials.specs.Sets.{in_set};

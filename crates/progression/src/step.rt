@@ -1,7 +1,6 @@
 // What an event leaves of a rule, by truth tables.
-ghost use Rattle.std.specs.Prelude.{◌≡◌, ℕ, ◌<◌};
+ghost use Rattle.std.specs.Prelude.{◌<◌};
 ghost use Rattle.rules.specs.Rules.{node_count};
-ghost use Rattle.polynomials.specs.Held.{vectors};
 ghost use Rattle.polynomials.specs.Polynomial.{Polynomial, value, substitute};
 ghost use Rattle.progression.specs.Progress.{change};
 ghost use Rattle.progression.specs.Tables.{TruthTable, StandsFor, Tabled, Changes};

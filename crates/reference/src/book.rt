@@ -155,7 +155,7 @@ impl Book<'_> {
                 self.events.truncate(n);
             }
             Asked::Keep => {
-                let _ = self.unmark()?;
+                self.unmark()?;
             }
             Asked::Standing => {}
         }
@@ -167,7 +167,7 @@ impl Book<'_> {
         self.note(asked)?;
         let told = self.standing()?;
         if matches!(asked, Asked::LookAhead(_)) {
-            let _ = self.events.pop();
+            self.events.pop();
         }
         Ok(told)
     }

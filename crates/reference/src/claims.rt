@@ -176,8 +176,7 @@ impl Case<'_> {
     // Whether it is about a node of the rule at a place of the record, and is supported.
     fn accepted(&self, formula: &Formula) -> bool {
         let c = self.claim.said;
-        c.place >= 1
-            && c.place <= self.record.places()
+        (1..=self.record.places()).contains(&c.place)
             && numbered(formula.nodes.as_slice(), c.node).is_some_and(|n| self.supported(*n))
     }
 }
@@ -237,17 +236,17 @@ impl Writer<'_> {
     }
 
     // The number of the claim on a node at a place.
-    fn number(&self, said: Said) -> Option<usize> {
+    fn number(&self, said: Said) -> usize {
         let before = self.events.saturating_add(1).saturating_sub(said.place);
-        Some(before.saturating_mul(self.root).saturating_add(said.node))
+        before.saturating_mul(self.root).saturating_add(said.node)
     }
 
     fn one(&self, x: Said) -> Grounds {
-        (self.number(x), None)
+        (Some(self.number(x)), None)
     }
 
     fn two(&self, x: Said, y: Said) -> Grounds {
-        (self.number(x), self.number(y))
+        (Some(self.number(x)), Some(self.number(y)))
     }
 
     // A node with the value `both` exactly if x and y are so: else it rests on the first that is not.

@@ -64,8 +64,8 @@ impl<'a> Lines<'a> {
     // All events, and the end of the file.
     fn read_events(&mut self, heap: Global, reading: Reading) -> Result<Vec<u32>, Stop> {
         let mut events = Vec::new(heap);
-        for line in self.lines.iter().skip(3) {
-            self.at = self.at.saturating_add(1);
+        for (i, line) in self.lines.iter().enumerate().skip(self.at) {
+            self.at = i.saturating_add(1);
             let code = event_code(heap, reading, line)?;
             if events.len() >= 4095 {
                 return Err(Reason::ManyEvents.at(4096).into());

@@ -34,12 +34,18 @@ impl Formula {
     }
 }
 
-// The nodes that stand, the operators and parentheses that wait for an operand, and the nodes that are no operand yet.
+// The nodes that stand, and those of them that are no operand yet.
+#[derive(Drop)]
+struct Stand {
+    nodes: Vec<Node>,
+    loose: Vec<usize>,
+}
+
+// What stands, and the operators and parentheses that wait for an operand.
 #[derive(Drop)]
 struct Yard {
-    nodes: Vec<Node>,
+    stand: Stand,
     waiting: Vec<Sign>,
-    loose: Vec<usize>,
 }
 
 // Whether a sign that waits has all its operands before the next sign.
@@ -51,7 +57,7 @@ fn goes_first(waiting: Sign, next: Sign) -> bool {
     }
 }
 
-impl Yard {
+impl Stand {
     fn settle(&mut self, node: Node) -> Result<(), AllocError> {
         self.nodes.push(node)?;
         self.loose.push(self.nodes.len())?;
@@ -69,22 +75,20 @@ impl Yard {
             _ => Ok(()),
         }
     }
+}
 
+impl Yard {
     // Settles the waiting operators that have their operands before the next sign.
     fn settle_before(&mut self, next: Sign) -> Result<(), AllocError> {
-        // as many times as there are signs, each of which goes once
-        for _ in 0..self.waiting.len() {
-            match self.waiting.pop_if(|top| goes_first(*top, next)) {
-                Some(operator) => self.apply(operator)?,
-                None => break,
-            }
+        while let Some(operator) = self.waiting.pop_if(|top| goes_first(*top, next)) {
+            self.stand.apply(operator)?;
         }
         Ok(())
     }
 
     fn take(&mut self, sign: Sign) -> Result<(), AllocError> {
         match sign {
-            Sign::Truth(value) => self.settle(Node::Truth(value))?,
+            Sign::Truth(value) => self.stand.settle(Node::Truth(value))?,
             Sign::Close => {
                 self.settle_before(sign)?;
                 let _ = self.waiting.pop();
@@ -101,18 +105,23 @@ impl Yard {
 
 fn nodes_of(heap: Global, scan: &Scan) -> Result<Vec<Node>, AllocError> {
     let mut yard = Yard {
-        nodes: Vec::new(heap),
+        stand: Stand {
+            nodes: Vec::new(heap),
+            loose: Vec::new(heap),
+        },
         waiting: Vec::new(heap),
-        loose: Vec::new(heap),
     };
     for token in scan.tokens.iter() {
         match scan.letter(token.text) {
-            Some(letter) => yard.settle(Node::Letter(letter))?,
+            Some(letter) => yard.stand.settle(Node::Letter(letter))?,
             None => yard.take(token.sign)?,
         }
     }
     yard.settle_before(Sign::Close)?;
-    let Yard { nodes, .. } = yard;
+    let Yard {
+        stand: Stand { nodes, .. },
+        ..
+    } = yard;
     Ok(nodes)
 }
 

@@ -5,6 +5,7 @@ ghost use Rattle.reference.specs.Cases.{code_count};
 use crate::bound::Bound;
 use crate::formula::Formula;
 use crate::grade::Grade;
+use crate::numbered::number_of;
 use crate::refusal::{Reason, Refusal, Stop};
 use crate::set::Set;
 use crate::sign::{Sign, begins_word, is_inner, word_sign};
@@ -81,8 +82,7 @@ impl<'a> Reading<'a> {
 
     // The number of a name, from 1.
     pub fn find(&self, name: &[u8]) -> Option<usize> {
-        let i = self.names.iter().position(|n| *n == name)?;
-        Some(i.saturating_add(1))
+        number_of(self.names, |n| *n == name)
     }
 
     // The rule with the number of each letter among the names, or why it cannot be bound.
@@ -102,8 +102,7 @@ impl<'a> Reading<'a> {
     }
 
     fn has_mark(&self, mark: Grade, code: u32, number: usize) -> bool {
-        number >= 1
-            && number <= self.names.len()
+        (1..=self.names.len()).contains(&number)
             && code < self.kind.codes()
             && self.kind.mark(code, number) == mark
     }

@@ -1,6 +1,6 @@
 // What a rule leaves to be met, as a truth table over its obligations.
 use crate::formula::{Formula, Node};
-use crate::numbered::numbered;
+use crate::numbered::{number_of, numbered};
 use crate::set::Set;
 use crate::sign::{Infix, Prefix};
 use std::alloc::{AllocError, Global};
@@ -48,10 +48,7 @@ impl Step<'_> {
     }
 
     fn later(&self, j: usize) -> bool {
-        self.obligations
-            .iter()
-            .position(|o| *o == j)
-            .is_some_and(|i| self.later.has(i.saturating_add(1)))
+        number_of(self.obligations, |o| *o == j).is_some_and(|i| self.later.has(i))
     }
 
     fn prefix(&self, j: usize, prefix: Prefix, operand: usize) -> bool {
@@ -115,10 +112,9 @@ pub fn residue(
     obligations: &[usize],
     events: &[Set],
 ) -> Result<Vec<bool>, AllocError> {
-    let sets = 1usize << obligations.len().min(8);
     let mut table = Vec::new(heap);
-    for bits in (0..=u8::MAX).take(sets) {
-        let mut set = Set(u64::from(bits));
+    for bits in 0..1 << obligations.len().min(8) {
+        let mut set = Set(bits);
         for letters in events.iter().rev() {
             set = before(heap, formula, obligations, *letters, set)?;
         }

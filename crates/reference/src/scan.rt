@@ -1,4 +1,5 @@
 // Reading a rule text from left to right, to its first fault.
+use crate::numbered::number_of;
 use crate::refusal::{Reason, Refusal, Stop};
 use crate::sign::{Sign, Token, is_blank, token_at};
 use std::alloc::Global;
@@ -44,8 +45,7 @@ impl<'a> Scan<'a> {
 
     // The number of a name among the letters so far, from 1.
     pub fn letter(&self, name: &[u8]) -> Option<usize> {
-        let i = self.letters.iter().position(|l| l.text == name)?;
-        Some(i.saturating_add(1))
+        number_of(self.letters.as_slice(), |l| l.text == name)
     }
 
     fn note_letter(&mut self, token: Token<'a>) -> Result<(), Stop> {

@@ -23,6 +23,6 @@ impl Set {
     }
 
     pub(crate) fn has(self, number: usize) -> bool {
-        (1..number).fold(self.0, |left, _| left / 2) % 2 == 1
+        (1..=64).contains(&number) && self.0 >> (number - 1) & 1 == 1
     }
 }

@@ -98,14 +98,9 @@ pub fn token_at(text: &[u8], at: usize) -> Result<Token<'_>, Refusal> {
     if begins_word(rest) {
         return word_at(rest, at);
     }
-    for (sign, spelling) in SPELLED {
-        if rest.starts_with(spelling) {
-            return Ok(Token {
-                sign,
-                at,
-                text: spelling,
-            });
-        }
-    }
-    Err(Reason::NoSign.at(at))
+    let (sign, text) = SPELLED
+        .into_iter()
+        .find(|(_, spelling)| rest.starts_with(spelling))
+        .ok_or(Reason::NoSign.at(at))?;
+    Ok(Token { sign, at, text })
 }

@@ -47,7 +47,7 @@ fn same_residual(residual: polynomials::Residual, table: &[bool]) -> bool {
 }
 
 // The like.
-fn finality(finality: monitor::Finality) -> Finality {
+pub fn finality(finality: monitor::Finality) -> Finality {
     match finality {
         monitor::Finality::SoFar => Finality::SoFar,
         monitor::Finality::ForGood => Finality::ForGood,

@@ -1,8 +1,10 @@
 // Examples with known answers.
-use monitor::{Finality, Monitor};
+use crate::call_lists::finality;
+use crate::verdicts_said::Graded;
+use monitor::Monitor;
 use readings::{BoundRule, Named, Words};
+use reference::{Finality, Grade};
 use rules::{Fault, Rule};
-use verdicts::YesNo;
 
 // The rule bound to a reading of the words a, b and c.
 fn bound(text: &[u8]) -> BoundRule<Words> {
@@ -13,14 +15,9 @@ fn bound(text: &[u8]) -> BoundRule<Words> {
 }
 
 // What a monitor says before any event.
-pub fn fresh(text: &[u8]) -> &'static str {
+pub fn fresh(text: &[u8]) -> (Grade, Finality) {
     let standing = Monitor::open(bound(text)).close();
-    match (standing.verdict, standing.finality) {
-        (YesNo::Kept, Finality::SoFar) => "kept so far",
-        (YesNo::Kept, Finality::ForGood) => "kept for good",
-        (YesNo::Broken, Finality::SoFar) => "broken so far",
-        (YesNo::Broken, Finality::ForGood) => "broken for good",
-    }
+    (standing.verdict.grade(), finality(standing.finality))
 }
 
 // How many obligations a rule has, or why that is refused.

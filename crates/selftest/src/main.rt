@@ -43,8 +43,8 @@ fn print_obligations(rt: &HostRuntime, text: &str) -> io::Result<()> {
 }
 
 fn print_fresh(rt: &HostRuntime, text: &str) -> io::Result<()> {
-    let said = fresh(text.as_bytes());
-    println!(rt; "{text}: {said} when fresh")
+    let (verdict, finality) = fresh(text.as_bytes());
+    println!(rt; "{text}: {verdict} {finality} when fresh")
 }
 
 fn print_last(rt: &HostRuntime) -> io::Result<()> {

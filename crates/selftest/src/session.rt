@@ -50,8 +50,14 @@ impl Session {
                 deep: self.source.one_in(3),
             };
         }
+        let signs = self.source.below(16);
+        self.small(signs)
+    }
+
+    // A shape with few names.
+    fn small(&mut self, signs: u32) -> Shape {
         Shape {
-            signs: self.source.below(16),
+            signs,
             names: self.source.index(4).saturating_add(1),
             deep: false,
         }
@@ -159,15 +165,9 @@ impl Session {
 
     // A rule that can be read, and a few names.
     fn subject(&mut self) -> Result<Option<Subject>, AllocError> {
-        let shape = Shape {
-            signs: if self.source.one_in(12) {
-                self.source.below(36)
-            } else {
-                self.source.below(14)
-            },
-            names: self.source.index(4).saturating_add(1),
-            deep: false,
-        };
+        let most = if self.source.one_in(12) { 36 } else { 14 };
+        let signs = self.source.below(most);
+        let shape = self.small(signs);
         let text = rule_text(&mut self.source, shape)?;
         let mut rule = Rule::new();
         let known = if self.source.one_in(10) {
@@ -217,11 +217,8 @@ impl Session {
     }
 
     fn reports<R: Paired>(&mut self) -> Result<(), AllocError> {
-        let shape = Shape {
-            signs: self.source.below(14),
-            names: self.source.index(4).saturating_add(1),
-            deep: false,
-        };
+        let signs = self.source.below(14);
+        let shape = self.small(signs);
         let file = some_file(&mut self.source, R::KIND, shape)?;
         self.report(file.as_slice())
     }

@@ -44,7 +44,7 @@ const ENTRIES: [&[u8]; 12] = [
 ];
 
 pub fn name(index: usize) -> &'static [u8] {
-    NAMES[index % 12]
+    NAMES[index % NAMES.len()]
 }
 
 // How a text is made: about so many signs, of so many names.

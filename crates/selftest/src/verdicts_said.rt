@@ -53,9 +53,10 @@ pub struct Room {
 
 // Whether lent memory has these grades, and the filler behind them.
 fn has_grades<S: Graded>(lent: &[S], grades: &[Grade]) -> bool {
-    lent.len() >= grades.len()
-        && lent.iter().enumerate().all(|(i, v)| v.grade()
-            == grades.get(i).copied().unwrap_or(S::FILLER.grade()))
+    lent.split_at_checked(grades.len()).is_some_and(|(written, left)| {
+        written.iter().map(|v| v.grade()).eq(grades.iter().copied())
+            && left.iter().all(|v| v.grade() == S::FILLER.grade())
+    })
 }
 
 // Whether lent memory is as it was.
