@@ -6,7 +6,7 @@ pub(crate) fn numbered<T>(list: &[T], number: usize) -> Option<&T> {
 }
 
 // The number of the first entry that is so, if there is one.
-pub fn number_of<T, F: FnMut(&T) -> bool>(list: &[T], is_so: F) -> Option<usize>
+pub(crate) fn number_of<T, F: FnMut(&T) -> bool>(list: &[T], is_so: F) -> Option<usize>
     requires { F.IsAlwaysCallable is_so }
 {
     let i = list.iter().position(is_so)?;
