@@ -5,15 +5,12 @@ use crate::answer::{Answer, Report};
 use crate::stop::Stop;
 use claims::{Claim, write};
 use readings::{BoundRule, Reading};
-use rules::{Fault, MOST_NODES};
+use rules::Fault;
 use std::alloc::Global;
-use verdicts::{Scale, YesNo, evaluate, valuate};
+use verdicts::{Scale, TWO_ROWS, ThreeWay, YesNo, evaluate, valuate};
 
 // The most claims that are printed.
-const CLAIMS: usize = 3200;
-
-// Two values for each of a rule's nodes.
-const SCRATCH: usize = 2 * MOST_NODES;
+const MOST_CLAIMS: usize = 3200;
 
 #[derive(Drop)]
 pub(crate) struct Log<R> {
@@ -29,7 +26,7 @@ impl<R: Reading> Log<R> {
         let n = self.trace.len();
         let mut valuation = vec![in heap; S::bottom(); n * rule.letters().len()]?;
         valuate(&self.bound, &self.trace, &mut valuation)?;
-        let mut scratch = vec![in heap; S::bottom(); SCRATCH]?;
+        let mut scratch = vec![in heap; S::bottom(); TWO_ROWS]?;
         Ok(evaluate(rule, n, &valuation, &mut scratch)?)
     }
 
@@ -41,7 +38,7 @@ impl<R: Reading> Log<R> {
     // All claims; a fault of the whole file where they are too many to print.
     fn claims(&self, heap: Global) -> Result<Vec<Claim>, Stop> {
         let total = (self.trace.len() + 1).saturating_mul(self.bound.rule().nodes().len());
-        if total > CLAIMS {
+        if total > MOST_CLAIMS {
             return Err(Stop::Whole(Fault::ShortBuffer(total)));
         }
         let mut claims = vec![in heap; Claim::BLANK; total]?;
@@ -52,7 +49,7 @@ impl<R: Reading> Log<R> {
     // Only doubt asks for the scale of three, and then there are no claims.
     pub(crate) fn report(&self, heap: Global) -> Result<Report, Stop> {
         if self.is_doubted() {
-            let verdict = self.verdict(heap)?;
+            let verdict: ThreeWay = self.verdict(heap)?;
             return Ok(Report::bare(heap, Answer::Verdict(verdict)));
         }
         let verdict: YesNo = self.verdict(heap)?;

@@ -87,6 +87,7 @@ impl<R: Reading> Monitor<R> {
     {
         let now = self.inner.now;
         let (letters, _) = self.reading.show(code, self.inner.setup.letters());
+        // The guard is set first, so that a refusal restores too.
         let guard = Ahead::new(&mut self.inner.now.residual, &self.inner.setup, letters);
         admitted(&self.reading, &self.inner.setup, now, code)?;
         Ok(guard.standing(&self.inner.setup, now.count + 1))

@@ -7,7 +7,7 @@ use odd::Odd;
 use readings::{BoundRule, Reading};
 use rules::{Fault, Rule};
 use std::io;
-use verdicts::{YesNo, evaluate, valuate};
+use verdicts::{TWO_ROWS, YesNo, evaluate, valuate};
 
 // The verdict of a rule on a trace of codes.
 fn judged(text: &[u8], trace: &[u32]) -> Result<YesNo, Fault> {
@@ -17,7 +17,7 @@ fn judged(text: &[u8], trace: &[u32]) -> Result<YesNo, Fault> {
     let bound = BoundRule::new(rule, Odd);
     let mut valuation = [YesNo::Broken; 16];
     valuate(&bound, trace, &mut valuation)?;
-    let mut scratch = [YesNo::Broken; 128];
+    let mut scratch = [YesNo::Broken; TWO_ROWS];
     evaluate(bound.rule(), trace.len(), &valuation, &mut scratch)
 }
 

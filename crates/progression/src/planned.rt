@@ -11,11 +11,8 @@ ghost use Rattle.progression.specs.Tables.{StandsFor};
 
 use crate::plan::{MOST_OBLIGATIONS, Plan};
 use polynomials::Residual;
-use rules::{MOST_NODES, Rule};
-use verdicts::{YesNo, evaluate};
-
-// Two rows of values, as an evaluation asks for.
-const TWO_ROWS: usize = 2 * MOST_NODES;
+use rules::Rule;
+use verdicts::{TWO_ROWS, YesNo, evaluate};
 
 // The values of the nodes on the empty rest: an evaluation of no events leaves them in its scratch.
 fn ended(rule: &Rule) -> [YesNo; TWO_ROWS]
@@ -64,6 +61,7 @@ impl Plan {
     {
         let values = ended(&self.rule);
         let mut vector = 0;
+        // By the number of each bit. A function with a closure, for this and `step` of `polynomials`, would say no less.
         for i in 0..MOST_OBLIGATIONS {
             if self.place(i).is_some_and(|j| values[j] == YesNo::Kept) {
                 vector |= 1 << i;

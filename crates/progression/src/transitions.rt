@@ -13,6 +13,7 @@ use std::array;
 const LETTER_SETS: usize = 256;
 
 // The tables of every set of letters, and the sets that are possible. It is large, and wanted only while a monitor is opened.
+// An array and no `Vec`: no heap.
 #[derive(Drop)]
 pub struct Transitions {
     pub(crate) plan: Plan,

@@ -10,7 +10,10 @@ ghost use Rattle.verdicts.specs.Step.{Valued};
 use crate::events::MOST_EVENTS;
 use crate::scale::Scale;
 use crate::step::{node_end, node_row};
-use rules::{Fault, Rule};
+use rules::{Fault, MOST_NODES, Rule};
+
+// The values that an evaluation of any rule has room in: two rows.
+pub const TWO_ROWS: usize = 2 * MOST_NODES;
 
 // The values of all nodes past the last event.
 fn end_row<S: Scale>(rule: &Rule, here: &mut [S])

@@ -8,7 +8,7 @@ mod step;
 mod three_way;
 mod valuation;
 
-pub use backward::evaluate;
+pub use backward::{TWO_ROWS, evaluate};
 pub use events::{MOST_EVENTS, admitted, check_events};
 pub use scale::{Scale, YesNo};
 pub use three_way::ThreeWay;
