@@ -31,16 +31,16 @@ impl Claim {
     fn says(self, x: Fact) -> bool
         ensures { result ≡ says self x }
     {
-        counts(self.place, x.place) & counts(self.node, x.node) & (self.sign == x.sign)
+        counts(self.place, x.place) && counts(self.node, x.node) && self.sign == x.sign
     }
 
     fn rests(self, earlier: &[Claim], grounds: Grounds) -> bool
         ensures { result ≡ rests earlier.now (length earlier.now) self grounds }
     {
         match grounds {
-            Grounds::Nothing => (self.first == 0) & (self.second == 0),
-            Grounds::One(x) => cites(earlier, self.first, x) & (self.second == 0),
-            Grounds::Both(x, y) => cites(earlier, self.first, x) & cites(earlier, self.second, y),
+            Grounds::Nothing => self.first == 0 && self.second == 0,
+            Grounds::One(x) => cites(earlier, self.first, x) && self.second == 0,
+            Grounds::Both(x, y) => cites(earlier, self.first, x) && cites(earlier, self.second, y),
         }
     }
 
@@ -57,7 +57,7 @@ impl<'a, R: Reading> Case<'a, R> {
         ensures { result ≡ placed (length self.now.trace.now) (node_count self.now.bound.now.rule) c }
     {
         (1..=self.trace.len() + 1).contains(&(c.place as usize))
-            & (1..=self.nodes.len()).contains(&(c.node as usize))
+            && (1..=self.nodes.len()).contains(&(c.node as usize))
     }
 
     // Whether a claim after the earlier ones is supported.
@@ -88,7 +88,7 @@ impl<'a, R: Reading> Case<'a, R> {
         ensures { result ≡ answer (bad_end (node_count self.now.bound.now.rule) claims.now) (last_of claims.now) }
     {
         match claims.last() {
-            Some(&last) if (last.place == 1) & (last.node as usize == self.nodes.len()) => Ok(last),
+            Some(&last) if last.place == 1 && last.node as usize == self.nodes.len() => Ok(last),
             _ => Err(Fault::BadEnd(claims.len())),
         }
     }

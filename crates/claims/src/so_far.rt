@@ -44,7 +44,7 @@ impl<'a> SoFar<'a> {
         match grounds {
             Grounds::Nothing => true,
             Grounds::One(x) => self.shows(x),
-            Grounds::Both(x, y) => self.shows(x) & self.shows(y),
+            Grounds::Both(x, y) => self.shows(x) && self.shows(y),
         }
     }
 
