@@ -54,12 +54,7 @@ fn changed(source: &mut Source, claim: Claim) -> Claim {
     match source.below(5) {
         0 => c.place = nudged(source, c.place),
         1 => c.node = nudged(source, c.node),
-        2 => {
-            c.sign = match c.sign {
-                Sign::Holds => Sign::Fails,
-                Sign::Fails => Sign::Holds,
-            }
-        }
+        2 => c.sign = !c.sign,
         3 => c.first = nudged(source, c.first),
         _ => c.second = nudged(source, c.second),
     }
