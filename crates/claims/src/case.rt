@@ -3,6 +3,7 @@ ghost use Rattle.std.specs.Prelude.{◌≡◌, ◌≤◌, length};
 ghost use Rattle.rules.specs.Rules.{node_count, letter_count, nodes_of};
 ghost use Rattle.readings.specs.Binding.{numbers_of};
 ghost use Rattle.std.proofs.Props.{props};
+ghost use Rattle.verdicts.specs.declared.events.TheConstants.{MOST_EVENTS};
 
 use crate::spot::Spot;
 use readings::{BoundRule, Reading};
@@ -20,7 +21,7 @@ pub struct Case<'a, R> {
     ghost numbers_long: { length numbers.now ≡ letter_count bound.now.rule },
     ghost nodes_same: { nodes.now ≡ nodes_of bound.now.rule } by { Prim.hlevel props },
     ghost nodes_long: { length nodes.now ≡ node_count bound.now.rule },
-    ghost few: { length trace.now ≤ 4095 },
+    ghost few: { length trace.now ≤ MOST_EVENTS },
 }
 
 impl<'a, R: Reading> Case<'a, R> {
@@ -37,7 +38,7 @@ impl<'a, R: Reading> Case<'a, R> {
     // The bound rule on the trace, if that is not too long.
     pub(crate) fn new(bound: &'a BoundRule<R>, trace: &'a [u32]) -> Result<Case<'a, R>, Fault>
         ensures bound { Bound (case_of R.meaning bound.now trace.now) }
-        ensures answers { MatchResult result (λ c. posed R.meaning c ≡ case_of R.meaning bound.now trace.now) (λ f. (f ≡ ManyEvents) × (4095 < length trace.now)) }
+        ensures answers { MatchResult result (λ c. posed R.meaning c ≡ case_of R.meaning bound.now trace.now) (λ f. (f ≡ ManyEvents) × (MOST_EVENTS < length trace.now)) }
     {
         let numbers = bound.numbers();
         let nodes = bound.rule().nodes();

@@ -1,9 +1,10 @@
 // The check of a list of claims.
-ghost use Rattle.std.specs.Prelude.{◌≡◌, ◌+◌, length, ◌==◌};
+ghost use Rattle.std.specs.Prelude.{◌≡◌, ◌-◌, ◌<◌, length};
+ghost use Rattle.std.specs.Option.{MatchOption};
 ghost use Rattle.rules.specs.First.{answer};
 ghost use Rattle.rules.specs.Rules.{node_count};
 ghost use Rattle.claims.specs.Ways.{case_of};
-ghost use Rattle.claims.specs.Claims.{says, cites, rests, meets, placed, supported, last_of, bad_end, checked, unsupported, Sound, Exact, Evaluated};
+ghost use Rattle.claims.specs.Claims.{says, cites, rests, meets, supported, last_of, bad_end, checked, unsupported, Sound, Exact, Evaluated};
 ghost use Rattle.claims.specs.Posed.{posed};
 
 use crate::case::Case;
@@ -13,34 +14,38 @@ use readings::{BoundRule, Reading};
 use rules::Fault;
 use verdicts::YesNo;
 
-// Whether a number that counts from 1 is the one that is `x` from 0.
-fn counts(number: u32, x: usize) -> bool
-    ensures { result ≡ (number == x + 1) }
+// The index that a number says, which counts from 1: 0 says none.
+fn index(number: u32) -> Option<usize>
+    ensures { MatchOption result (number ≡ 0) (λ i. (0 < number) × (i ≡ number - 1)) }
 {
-    number > 0 && number as usize - 1 == x
+    (number as usize).checked_sub(1)
 }
 
 // Whether `number` is that of one of the earlier claims, and that claim says a fact.
 fn cites(earlier: &[Claim], number: u32, x: Fact) -> bool
     ensures { result ≡ cites earlier.now (length earlier.now) number x }
 {
-    number > 0 && earlier.get(number as usize - 1).is_some_and(|c| c.says(x))
+    index(number)
+        .and_then(|i| earlier.get(i))
+        .is_some_and(|c| c.says(x))
 }
 
 impl Claim {
     fn says(self, x: Fact) -> bool
         ensures { result ≡ says self x }
     {
-        counts(self.place, x.place) & counts(self.node, x.node) & (self.sign == x.sign)
+        index(self.place) == Some(x.place)
+            && index(self.node) == Some(x.node)
+            && self.sign == x.sign
     }
 
     fn rests(self, earlier: &[Claim], grounds: Grounds) -> bool
         ensures { result ≡ rests earlier.now (length earlier.now) self grounds }
     {
         match grounds {
-            Grounds::Nothing => (self.first == 0) & (self.second == 0),
-            Grounds::One(x) => cites(earlier, self.first, x) & (self.second == 0),
-            Grounds::Both(x, y) => cites(earlier, self.first, x) & cites(earlier, self.second, y),
+            Grounds::Nothing => self.first == 0 && self.second == 0,
+            Grounds::One(x) => cites(earlier, self.first, x) && self.second == 0,
+            Grounds::Both(x, y) => cites(earlier, self.first, x) && cites(earlier, self.second, y),
         }
     }
 
@@ -52,23 +57,16 @@ impl Claim {
 }
 
 impl<'a, R: Reading> Case<'a, R> {
-    // Whether a claim is on one of the nodes at one of the places.
-    fn has(&self, c: Claim) -> bool
-        ensures { result ≡ placed (length self.now.trace.now) (node_count self.now.bound.now.rule) c }
-    {
-        (1..=self.trace.len() + 1).contains(&(c.place as usize))
-            & (1..=self.nodes.len()).contains(&(c.node as usize))
-    }
-
-    // Whether a claim after the earlier ones is supported.
+    // Whether a claim after the earlier ones is on one of the nodes at one of the places, and is supported.
     fn supports(&self, earlier: &[Claim], c: Claim) -> bool
         ensures { result ≡ supported (posed R.meaning self.now) earlier.now (length earlier.now) c }
     {
-        if !self.has(c) {
+        let (Some(place), Some(own)) = (index(c.place), index(c.node)) else {
             return false;
-        }
-        let spot = self.spot(c.place as usize - 1, c.node as usize - 1);
-        c.meets(earlier, self.ways(spot, c.sign))
+        };
+        place <= self.trace.len()
+            && own < self.nodes.len()
+            && c.meets(earlier, self.ways(self.spot(place, own), c.sign))
     }
 
     // The first claim that is not supported. Claims count from 1.
@@ -88,7 +86,7 @@ impl<'a, R: Reading> Case<'a, R> {
         ensures { result ≡ answer (bad_end (node_count self.now.bound.now.rule) claims.now) (last_of claims.now) }
     {
         match claims.last() {
-            Some(&last) if (last.place == 1) & (last.node as usize == self.nodes.len()) => Ok(last),
+            Some(&last) if last.place == 1 && last.node as usize == self.nodes.len() => Ok(last),
             _ => Err(Fault::BadEnd(claims.len())),
         }
     }

@@ -48,7 +48,7 @@ impl From<Sign> for YesNo {
 
 // That a node of a rule holds, or fails, at a place of a trace. Places count from 1 to n + 1, which is the empty rest of a
 // trace of n events; nodes count from 1 to m, which is the whole rule; claims count from 1. `first` and `second` are the
-// numbers of the earlier claims that this one rests on, or 0: so they are printed, and an Option could say `Some(0)` besides.
+// numbers of the earlier claims that this one rests on, 0 for none: the fields are public, and are printed so.
 #[derive(Clone, Copy, PartialEq, Eq, Debug)]
 pub struct Claim {
     pub place: u32,

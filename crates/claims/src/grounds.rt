@@ -52,6 +52,7 @@ impl Ways {
         match self {
             Ways::Never => false,
             Ways::By(g) => test(g),
+            // both are asked, as AnyOf says
             Ways::Either(g, h) => test(g) | test(h),
         }
     }

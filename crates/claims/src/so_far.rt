@@ -1,5 +1,7 @@
 // What the claims that are written so far show.
-ghost use Rattle.std.specs.Prelude.{◌<◌, length};
+ghost use Rattle.std.specs.Prelude.{◌+◌, ◌*◌, ◌<◌, length};
+ghost use Rattle.rules.specs.declared.rule.TheConstants.{MOST_NODES};
+ghost use Rattle.verdicts.specs.declared.events.TheConstants.{MOST_EVENTS};
 
 use crate::claim::{Claim, Sign};
 use crate::grounds::{Fact, Grounds, Ways};
@@ -12,7 +14,7 @@ pub struct SoFar<'a> {
     pub(crate) n: usize,
     pub(crate) m: usize,
     pub(crate) claims: &'a [Claim],
-    ghost room: { length claims.now < 262144 },
+    ghost room: { length claims.now < (MOST_EVENTS + 1) * MOST_NODES },
 }
 
 impl<'a> SoFar<'a> {
@@ -44,7 +46,7 @@ impl<'a> SoFar<'a> {
         match grounds {
             Grounds::Nothing => true,
             Grounds::One(x) => self.shows(x),
-            Grounds::Both(x, y) => self.shows(x) & self.shows(y),
+            Grounds::Both(x, y) => self.shows(x) && self.shows(y),
         }
     }
 

@@ -24,6 +24,8 @@ fn known(value: YesNo, sign: Sign) -> Ways
     }
 }
 
+// Below, `x`, `y` and `z` are the facts that a node joins, and the sign says whether the node is to hold or to fail.
+
 // Both of two facts.
 fn both(x: Fact, y: Fact, sign: Sign) -> Ways
     ensures { result ≡ all x y sign }
