@@ -29,7 +29,7 @@ impl Table {
 
     // Writes a node behind the others, and says its number.
     pub(crate) fn put(&mut self, n: Node) -> u8
-        requires { self.old.size < 64 }
+        requires { self.old.size < MOST_NODES }
         ensures { Put self.old self.new n result }
     {
         let at = self.size;

@@ -61,7 +61,7 @@ fn closed(s: &[u8], depth: usize) -> Result<&[u8], Stop>
 impl Spot {
     // Whether a sign at `s` may make a node.
     fn room(self, s: &[u8], table: &Table) -> Result<(), Stop>
-        ensures { MatchResult result (λ _. table.now.size + self.pending < 64) (λ f. (64 ≤ table.now.size + self.pending) × (f ≡ stop_at ManyNodes s.now)) }
+        ensures { MatchResult result (λ _. table.now.size + self.pending < MOST_NODES) (λ f. (MOST_NODES ≤ table.now.size + self.pending) × (f ≡ stop_at ManyNodes s.now)) }
     {
         if self.pending >= MOST_NODES - table.size {
             return Err(Stop::at(Why::ManyNodes, s));
@@ -113,7 +113,7 @@ impl Spot {
     // What binds tighter than level `k`.
     #[cycle(level_operand_tighter)]
     fn tighter<'a>(self, k: u8, s: &'a [u8], table: &mut Table) -> Result<(u8, &'a [u8]), Stop>
-        requires { (1 ≤ k) × (k ≤ 6) }
+        requires { (1 ≤ k) × (k ≤ TIGHTEST) }
         ensures { MatchResult result (λ p. Parsed self.total (suc k) s.now p.1.now self.depth self.pending table.old table.new p.0 × (rank_at p.1.now < suc k)) (λ f. Halts s.now (want self.depth (table.old.size + self.pending) (names_in table.old)) f) }
     {
         if k == TIGHTEST {
@@ -126,7 +126,7 @@ impl Spot {
     // Level `k` of the grammar: operands of what binds tighter, with the sign of rank `k` between them.
     #[cycle(level_operand_tighter)]
     fn level<'a>(self, k: u8, s: &'a [u8], table: &mut Table) -> Result<(u8, &'a [u8]), Stop>
-        requires { (1 ≤ k) × (k ≤ 6) }
+        requires { (1 ≤ k) × (k ≤ TIGHTEST) }
         ensures { MatchResult result (λ p. Parsed self.total k s.now p.1.now self.depth self.pending table.old table.new p.0 × (rank_at p.1.now < k)) (λ f. Halts s.now (want self.depth (table.old.size + self.pending) (names_in table.old)) f) }
     {
         let (mut left, mut rest) = self.tighter(k, s, table)?;
