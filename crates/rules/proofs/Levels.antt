@@ -125,17 +125,8 @@ side_of Iff = refl
 pub one_side : (o w : Binary) → rank_of o ≡ rank_of w → rightward o ≡ rightward w
 one_side o w e = sym (side_of o) ∙ ap side e ∙ side_of w
 
-pub rank_next : (s : List ℕ) {r : List ℕ} {m : Sign} → lex s ≡ sign m r → rank_at s ≡ sign_rank m
+rank_next : (s : List ℕ) {r : List ℕ} {m : Sign} → lex s ≡ sign m r → rank_at s ≡ sign_rank m
 rank_next s e = ap lex_rank e
-
-pub no_rank : (m : Sign) → ((x : Binary) → m ≡ Between x → ⊥) → sign_rank m ≡ 0
-no_rank (Before u) h = refl
-no_rank (Between b) h = absurd (h b refl)
-no_rank (Truth v) h = refl
-no_rank (Sign.Name k) h = refl
-no_rank Open h = refl
-no_rank Close h = refl
-no_rank End h = refl
 
 two_parsed : {N k j : ℕ} {s m n r : List ℕ} {d p : ℕ} {a b c e : Table} {x y z : ℕ} {o : Binary} (P : Parsed N k s m d p a b x) (Q : Parsed N j n r d (p + 1) b c y) → lex m ≡ sign (Between o) n → b.size + p < 64 → Reads N k s r (between o P.tree Q.tree) → Put c e (Node.Between o x y) z → Parsed N k s r d p a e z
 two_parsed {N} {k} {j} {s} {m} {n} {r} {d} {p} {a} {b} {c} {e} {x} {y} {z} {o} P Q l h reads w =

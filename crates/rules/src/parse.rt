@@ -1,11 +1,12 @@
 // The grammar, by recursive descent.
-ghost use Rattle.std.specs.Prelude.{◌≡◌, suc, ◌+◌, ◌<◌, ◌≤◌, [], MatchResult};
-ghost use Rattle.rules.specs.Signs.{stop_at, lex, sign};
+ghost use Rattle.std.specs.Prelude.{◌≡◌, suc, ◌+◌, ◌<◌, ◌≤◌, [], MatchOption, MatchResult};
+ghost use Rattle.rules.specs.Signs.{stop_at, lex, sign, bad};
 ghost use Rattle.rules.specs.Scan.{want};
 ghost use Rattle.rules.specs.Rest.{Halts, NextStep, halt, closer, rank_at};
 ghost use Rattle.rules.specs.Grammar.{rank_of, rightward};
 ghost use Rattle.rules.specs.Names.{names_in};
 ghost use Rattle.rules.specs.Descent.{Parsed, Built};
+ghost use Rattle.rules.specs.declared.sign.Sign.TheVariants.{Between};
 ghost use Rattle.rules.specs.declared.sign.Why.TheVariants.{ManyNodes};
 
 use crate::lex::next_sign;
@@ -58,11 +59,23 @@ fn closed(s: &[u8], depth: usize) -> Result<&[u8], Stop>
     }
 }
 
+// The sign of rank `k` that comes next at `s`, if one does, and what is behind it.
+fn joint(k: u8, s: &[u8]) -> Result<Option<(Binary, &[u8])>, Stop>
+    requires { (1 ≤ k) × (rank_at s.now ≤ k) }
+    ensures { MatchResult result (λ o. MatchOption o (rank_at s.now < k) (λ p. (lex s.now ≡ sign (Between p.0) p.1.now) × (rank_of p.0 ≡ k))) (λ f. lex s.now ≡ bad f) }
+{
+    match next_sign(s)? {
+        (Sign::Between(b), after) if b.rank() == k => Ok(Some((b, after))),
+        _ => Ok(None),
+    }
+}
+
 impl Spot {
     // Whether a sign at `s` may make a node.
     fn room(self, s: &[u8], table: &Table) -> Result<(), Stop>
         ensures { MatchResult result (λ _. table.now.size + self.pending < MOST_NODES) (λ f. (MOST_NODES ≤ table.now.size + self.pending) × (f ≡ stop_at ManyNodes s.now)) }
     {
+        // Subtracts, since nothing bounds `pending`: a sum could be too large.
         if self.pending >= MOST_NODES - table.size {
             return Err(Stop::at(Why::ManyNodes, s));
         }
@@ -130,14 +143,7 @@ impl Spot {
         ensures { MatchResult result (λ p. Parsed self.total k s.now p.1.now self.depth self.pending table.old table.new p.0 × (rank_at p.1.now < k)) (λ f. Halts s.now (want self.depth (table.old.size + self.pending) (names_in table.old)) f) }
     {
         let (mut left, mut rest) = self.tighter(k, s, table)?;
-        loop {
-            let (m, after) = next_sign(rest)?;
-            let Sign::Between(b) = m else {
-                return Ok((left, rest));
-            };
-            if b.rank() != k {
-                return Ok((left, rest));
-            }
+        while let Some((b, after)) = joint(k, rest)? {
             self.room(rest, table)?;
             let behind = Spot {
                 pending: self.pending + 1,
@@ -151,6 +157,7 @@ impl Spot {
             left = table.put(Node::Between(b, left, right));
             rest = end;
         }
+        Ok((left, rest))
     }
 }
 
