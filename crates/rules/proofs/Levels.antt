@@ -17,6 +17,7 @@ use Rattle.rules.specs.declared.rule.Table.{Table}
 use Rattle.rules.specs.declared.sign.Sign.{Sign}
 use Rattle.rules.specs.declared.sign.Sign.TheVariants.{Before, Between, Truth, Open, Close, End}
 use Rattle.rules.specs.declared.sign.Stop.{Stop}
+use Rattle.rules.specs.declared.spot.Spot.{Spot}
 use Rattle.rules.proofs.Fronts.{shorter}
 use Rattle.rules.proofs.Numbering.{names_noted, numbered_still, size_numbered}
 use Rattle.rules.proofs.Steps.{trans, later, at_once, renumber, step_name, step_truth, step_before, step_open, step_between, step_close}
@@ -24,6 +25,13 @@ use Rattle.rules.proofs.Steps.{trans, later, at_once, renumber, step_name, step_
 -- `put` leaves the letters
 same_letters : {b e : Table} {n : Node} {z : ℕ} → Put b e n z → table_letters b ≡ table_letters e
 same_letters w = sym (λ i. take (w.count i) (w.letters i))
+
+-- what a callee says of its own spot, said of an equal one
+pub halts_at : {s : List ℕ} (n : ℕ) {l : List Name} {f : Stop} {q o : Spot} → q ≡ o → Halts s (want q.depth (n + q.pending) l) f → Halts s (want o.depth (n + o.pending) l) f
+halts_at {s} n {l} {f} e h = subst (λ (q : Spot). Halts s (want q.depth (n + q.pending) l) f) e h
+
+pub parsed_at : {k : ℕ} {s r : List ℕ} {a b : Table} {x : ℕ} {q o : Spot} → q ≡ o → Parsed q.total k s r q.depth q.pending a b x → Parsed o.total k s r o.depth o.pending a b x
+parsed_at {k} {s} {r} {a} {b} {x} e h = subst (λ (q : Spot). Parsed q.total k s r q.depth q.pending a b x) e h
 
 -- OPERANDS
 

@@ -7,7 +7,7 @@ ghost use Rattle.rules.specs.declared.node.Node.TheVariants.{Truth};
 
 use crate::name::Name;
 use crate::node::Node;
-use crate::rule::{MOST_LETTERS, Letter, MOST_NODES, Rule, Table};
+use crate::rule::{Letter, MOST_LETTERS, MOST_NODES, Rule, Table};
 
 impl Table {
     // A table of no nodes and no letters.

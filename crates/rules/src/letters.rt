@@ -7,7 +7,7 @@ ghost use Rattle.rules.specs.declared.sign.Why.TheVariants.{ManyLetters};
 use crate::lex::skip;
 use crate::name::Name;
 use crate::names::same_name;
-use crate::rule::{MOST_LETTERS, Letter, Table};
+use crate::rule::{Letter, MOST_LETTERS, Table};
 use crate::sign::{Stop, Why};
 
 impl Letter {

@@ -82,6 +82,17 @@ impl Spot {
         Ok(())
     }
 
+    // Behind a sign whose node is to come.
+    fn behind(self) -> Spot
+        requires { self.pending < MOST_NODES }
+        ensures { result ≡ record { total = self.total; depth = self.depth; pending = self.pending + 1 } }
+    {
+        Spot {
+            pending: self.pending + 1,
+            ..self
+        }
+    }
+
     // An operand at `s`. Answers its node's number, and what is behind it.
     #[cycle(level_operand_tighter)]
     fn operand<'a>(self, s: &'a [u8], table: &mut Table) -> Result<(u8, &'a [u8]), Stop>
@@ -100,11 +111,7 @@ impl Spot {
             }
             Sign::Before(u) => {
                 self.room(s, table)?;
-                let behind = Spot {
-                    pending: self.pending + 1,
-                    ..self
-                };
-                let (a, end) = behind.operand(rest, table)?;
+                let (a, end) = self.behind().operand(rest, table)?;
                 Ok((table.put(Node::Before(u, a)), end))
             }
             Sign::Open => {
@@ -145,10 +152,7 @@ impl Spot {
         let (mut left, mut rest) = self.tighter(k, s, table)?;
         while let Some((b, after)) = joint(k, rest)? {
             self.room(rest, table)?;
-            let behind = Spot {
-                pending: self.pending + 1,
-                ..self
-            };
+            let behind = self.behind();
             let (right, end) = if b.to_right() {
                 behind.level(k, after, table)?
             } else {

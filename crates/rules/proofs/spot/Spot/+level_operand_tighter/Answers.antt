@@ -4,7 +4,7 @@ use Rattle.rules.specs.Descent.{Parsed}
 use Rattle.rules.specs.Names.{names_in}
 use Rattle.rules.specs.Rest.{rank_at}
 use Rattle.rules.proofs.Fronts.{is_sign, shorter}
-use Rattle.rules.proofs.Levels.{behind_between, name_parsed, truth_parsed, before_parsed, group_parsed, start, Side, side_shorter, turn_on}
+use Rattle.rules.proofs.Levels.{halts_at, parsed_at, behind_between, name_parsed, truth_parsed, before_parsed, group_parsed, start, Side, side_shorter, turn_on}
 use Rattle.rules.proofs.Steps.{later, at_once, at_bad, full, stopped_at, many_names, too_deep, no_operand, behind_before, behind_open}
 use Rattle.rules.proofs.spot.Spot.+level_operand_tighter.Goals as goal
 use Rattle.rules.proofs.spot.Spot.+level_operand_tighter.Goals.{level-then-to_right+in_ok-level, level-else-to_right+in_ok-right}
@@ -42,7 +42,7 @@ pub level-returns-in_err-level : goal.level-returns-in_err-level
 level-returns-in_err-level t c =
     let so = c.loop-b.invariant c.args.table.now (start c.in_ok-left.ensures) in
     let e = (MatchOption-at_some _ _ _ c.in-Some.is c.in_ok-b.ensures).0 in
-    stopped_at _ _ c.from_residual-in_err-level.ensures.1 (behind_between so.parsed e c.in_ok-room.ensures c.in_err-level.ensures)
+    stopped_at _ _ c.from_residual-in_err-level.ensures.1 (behind_between so.parsed e c.in_ok-room.ensures (halts_at _ c.behind-behind.ensures c.in_err-level.ensures))
 
 pub level-tighter-requires-else-to_right : goal.level-tighter-requires-else-to_right
 level-tighter-requires-else-to_right t c =
@@ -54,16 +54,16 @@ pub level-returns-in_err-right : goal.level-returns-in_err-right
 level-returns-in_err-right t c =
     let so = c.loop-b.invariant c.args.table.now (start c.in_ok-left.ensures) in
     let e = (MatchOption-at_some _ _ _ c.in-Some.is c.in_ok-b.ensures).0 in
-    stopped_at _ _ c.from_residual-in_err-right.ensures.1 (behind_between so.parsed e c.in_ok-room.ensures c.in_err-right.ensures)
+    stopped_at _ _ c.from_residual-in_err-right.ensures.1 (behind_between so.parsed e c.in_ok-room.ensures (halts_at _ c.behind-behind.ensures c.in_err-right.ensures))
 
 -- both ways of the right side
 side : (t : ℕ) (c : goal.level-After-put-left t) → Side c.args.self.total c.in-Some.b c.args.k c.in-Some.after.now c.if-to_right.right.1.now c.args.self.depth (c.args.self.pending + 1) c.loop-b.table c.if-to_right.table c.if-to_right.right.0
 side t c =
     elim c.if-to_right.branch [
       | level-then-to_right+in_ok-level w ↦
-          inl (sym w.if-to_right.ensures, subst₂ (λ r u. Parsed c.args.self.total c.args.k c.in-Some.after.now r.1.now c.args.self.depth (c.args.self.pending + 1) c.loop-b.table u r.0 × (rank_at r.1.now < c.args.k)) (sym w.right-is) (sym w.table-is) w.in_ok-level.ensures)
+          inl (sym w.if-to_right.ensures, subst₂ (λ r u. Parsed c.args.self.total c.args.k c.in-Some.after.now r.1.now c.args.self.depth (c.args.self.pending + 1) c.loop-b.table u r.0 × (rank_at r.1.now < c.args.k)) (sym w.right-is) (sym w.table-is) (parsed_at c.behind-behind.ensures w.in_ok-level.ensures.0, w.in_ok-level.ensures.1))
       | level-else-to_right+in_ok-right w ↦
-          inr (sym w.if-to_right.ensures, subst₂ (λ r u. Parsed c.args.self.total (suc c.args.k) c.in-Some.after.now r.1.now c.args.self.depth (c.args.self.pending + 1) c.loop-b.table u r.0 × (rank_at r.1.now < suc c.args.k)) (sym w.right-is) (sym w.table-is) w.in_ok-right.ensures)
+          inr (sym w.if-to_right.ensures, subst₂ (λ r u. Parsed c.args.self.total (suc c.args.k) c.in-Some.after.now r.1.now c.args.self.depth (c.args.self.pending + 1) c.loop-b.table u r.0 × (rank_at r.1.now < suc c.args.k)) (sym w.right-is) (sym w.table-is) (parsed_at c.behind-behind.ensures w.in_ok-right.ensures.0, w.in_ok-right.ensures.1))
     ]
 
 pub level-loop-b-smaller : goal.level-loop-b-smaller
@@ -101,7 +101,7 @@ operand-operand-requires t c =
 
 pub operand-returns-in_err-a-in-Before : goal.operand-returns-in_err-a-in-Before
 operand-returns-in_err-a-in-Before t c =
-    stopped_at _ _ c.from_residual-in_err-a-in-Before.ensures.1 (behind_before c.args.s.now c.in_ok-m.rest.now c.args.self.depth c.args.table.now.size (names_in c.args.table.now) c.args.self.pending (is_sign c.in_ok-m.ensures c.in-Before.is) c.in_ok-room-in-Before.ensures c.in_err-a-in-Before.ensures)
+    stopped_at _ _ c.from_residual-in_err-a-in-Before.ensures.1 (behind_before c.args.s.now c.in_ok-m.rest.now c.args.self.depth c.args.table.now.size (names_in c.args.table.now) c.args.self.pending (is_sign c.in_ok-m.ensures c.in-Before.is) c.in_ok-room-in-Before.ensures (halts_at _ c.behind.ensures c.in_err-a-in-Before.ensures))
 
 pub operand-returns-then-self-ge-DEPTH : goal.operand-returns-then-self-ge-DEPTH
 operand-returns-then-self-ge-DEPTH t c = too_deep _ _ _ _ _ (is_sign c.in_ok-m.ensures c.in-Open.is) (omega arith) c.at.ensures
@@ -131,7 +131,7 @@ operand-returns-in_ok-room-in-Truth t c =
 
 pub operand-returns-in_ok-a-in-Before : goal.operand-returns-in_ok-a-in-Before
 operand-returns-in_ok-a-in-Before t c =
-    before_parsed (is_sign c.in_ok-m.ensures c.in-Before.is) c.in_ok-room-in-Before.ensures c.in_ok-a-in-Before.ensures c.put-in-Before.ensures
+    before_parsed (is_sign c.in_ok-m.ensures c.in-Before.is) c.in_ok-room-in-Before.ensures (parsed_at c.behind.ensures c.in_ok-a-in-Before.ensures) c.put-in-Before.ensures
 
 pub operand-returns-in_ok-after-in-Open : goal.operand-returns-in_ok-after-in-Open
 operand-returns-in_ok-after-in-Open t c =
