@@ -1,11 +1,8 @@
 -- A table that a tree was written to decodes to that tree, and a rule's table is the table of its tree. Assumes nothing.
 use Rattle.std.proofs.Common.{◌≡◌, ℕ, zero, suc, ◌+◌, ◌-◌, ◌<◌, ◌≤◌, List, [], ◌∷◌, ◌++◌, length, get_or, sym, refl, ap, ◌∙◌, subst, ap₂, not-suc-le-zero, add_assoc, arith, length-append}
-use mathlib.Core.Logic.{∥∥₁_elim}
-use base.Stored.{Coded-set, coded_list}
 use Rattle.std.proofs.lemmas.List.{get_or_append_left, get_or-append_right, get_or_at}
 use Rattle.rules.specs.Rules.{nodes_of, tree_of_rule}
 use Rattle.rules.specs.Tree.{Tree, size, flatten, tree_of, within, decode, node_at}
-use Rattle.rules.specs.contracts.node.Node.{the_row}
 use Rattle.rules.specs.declared.node.Node.{Node}
 use Rattle.rules.specs.declared.rule.Rule.{Rule}
 
@@ -83,4 +80,4 @@ flat_decode t ns m is e =
 
 -- a rule's table is that of its tree
 pub rule_flat : (r : Rule) → flatten (tree_of_rule r) 0 ≡ nodes_of r
-rule_flat r = ∥∥₁_elim r.flat (Coded-set (coded_list the_row.coded) _ _) (λ e. e)
+rule_flat r = r.flat

@@ -17,6 +17,7 @@ use Rattle.rules.specs.declared.rule.Table.{Table}
 use Rattle.rules.specs.declared.sign.Sign.{Sign}
 use Rattle.rules.specs.declared.sign.Sign.TheVariants.{Before, Between, Truth, Open, Close, End}
 use Rattle.rules.specs.declared.sign.Stop.{Stop}
+use Rattle.rules.specs.declared.spot.Spot.{Spot}
 use Rattle.rules.proofs.Fronts.{shorter}
 use Rattle.rules.proofs.Numbering.{names_noted, numbered_still, size_numbered}
 use Rattle.rules.proofs.Steps.{trans, later, at_once, renumber, step_name, step_truth, step_before, step_open, step_between, step_close}
@@ -24,6 +25,13 @@ use Rattle.rules.proofs.Steps.{trans, later, at_once, renumber, step_name, step_
 -- `put` leaves the letters
 same_letters : {b e : Table} {n : Node} {z : ℕ} → Put b e n z → table_letters b ≡ table_letters e
 same_letters w = sym (λ i. take (w.count i) (w.letters i))
+
+-- what a callee says of its own spot, said of an equal one
+pub halts_at : {s : List ℕ} (n : ℕ) {l : List Name} {f : Stop} {q o : Spot} → q ≡ o → Halts s (want q.depth (n + q.pending) l) f → Halts s (want o.depth (n + o.pending) l) f
+halts_at {s} n {l} {f} e h = subst (λ (q : Spot). Halts s (want q.depth (n + q.pending) l) f) e h
+
+pub parsed_at : {k : ℕ} {s r : List ℕ} {a b : Table} {x : ℕ} {q o : Spot} → q ≡ o → Parsed q.total k s r q.depth q.pending a b x → Parsed o.total k s r o.depth o.pending a b x
+parsed_at {k} {s} {r} {a} {b} {x} e h = subst (λ (q : Spot). Parsed q.total k s r q.depth q.pending a b x) e h
 
 -- OPERANDS
 
@@ -125,17 +133,8 @@ side_of Iff = refl
 pub one_side : (o w : Binary) → rank_of o ≡ rank_of w → rightward o ≡ rightward w
 one_side o w e = sym (side_of o) ∙ ap side e ∙ side_of w
 
-pub rank_next : (s : List ℕ) {r : List ℕ} {m : Sign} → lex s ≡ sign m r → rank_at s ≡ sign_rank m
+rank_next : (s : List ℕ) {r : List ℕ} {m : Sign} → lex s ≡ sign m r → rank_at s ≡ sign_rank m
 rank_next s e = ap lex_rank e
-
-pub no_rank : (m : Sign) → ((x : Binary) → m ≡ Between x → ⊥) → sign_rank m ≡ 0
-no_rank (Before u) h = refl
-no_rank (Between b) h = absurd (h b refl)
-no_rank (Truth v) h = refl
-no_rank (Sign.Name k) h = refl
-no_rank Open h = refl
-no_rank Close h = refl
-no_rank End h = refl
 
 two_parsed : {N k j : ℕ} {s m n r : List ℕ} {d p : ℕ} {a b c e : Table} {x y z : ℕ} {o : Binary} (P : Parsed N k s m d p a b x) (Q : Parsed N j n r d (p + 1) b c y) → lex m ≡ sign (Between o) n → b.size + p < 64 → Reads N k s r (between o P.tree Q.tree) → Put c e (Node.Between o x y) z → Parsed N k s r d p a e z
 two_parsed {N} {k} {j} {s} {m} {n} {r} {d} {p} {a} {b} {c} {e} {x} {y} {z} {o} P Q l h reads w =

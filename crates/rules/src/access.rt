@@ -7,7 +7,7 @@ ghost use Rattle.rules.specs.declared.node.Node.TheVariants.{Truth};
 
 use crate::name::Name;
 use crate::node::Node;
-use crate::rule::{MOST_LETTERS, Letter, MOST_NODES, Rule, Table};
+use crate::rule::{Letter, MOST_LETTERS, MOST_NODES, Rule, Table};
 
 impl Table {
     // A table of no nodes and no letters.
@@ -29,7 +29,7 @@ impl Table {
 
     // Writes a node behind the others, and says its number.
     pub(crate) fn put(&mut self, n: Node) -> u8
-        requires { self.old.size < 64 }
+        requires { self.old.size < MOST_NODES }
         ensures { Put self.old self.new n result }
     {
         let at = self.size;

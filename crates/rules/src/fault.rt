@@ -48,9 +48,9 @@ pub enum Fault {
 // Where a fault is found.
 #[derive(Clone, Copy, PartialEq, Eq, Debug)]
 pub enum Layer {
-    Signs,
-    Grammar,
-    Names,
-    Traces,
-    Files,
+    Signs = 1,
+    Grammar = 2,
+    Names = 3,
+    Traces = 4,
+    Files = 5,
 }

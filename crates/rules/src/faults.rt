@@ -82,6 +82,7 @@ impl Fault {
             | Fault::ManyObligations(at)
             | Fault::Unsupported(at)
             | Fault::BadEnd(at) => at,
+            // One past the events of a record, and the marks of a monitor: both limits are of crates above.
             Fault::ManyEvents => 4096,
             Fault::NinthMark => 8,
             Fault::NoMark | Fault::OutOfForm => 0,
@@ -93,12 +94,6 @@ impl Layer {
     pub fn number(self) -> u8
         ensures { result ≡ layer_number self }
     {
-        match self {
-            Layer::Signs => 1,
-            Layer::Grammar => 2,
-            Layer::Names => 3,
-            Layer::Traces => 4,
-            Layer::Files => 5,
-        }
+        self as u8
     }
 }

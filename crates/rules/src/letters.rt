@@ -7,7 +7,7 @@ ghost use Rattle.rules.specs.declared.sign.Why.TheVariants.{ManyLetters};
 use crate::lex::skip;
 use crate::name::Name;
 use crate::names::same_name;
-use crate::rule::{MOST_LETTERS, Letter, Table};
+use crate::rule::{Letter, MOST_LETTERS, Table};
 use crate::sign::{Stop, Why};
 
 impl Letter {
@@ -39,7 +39,7 @@ fn letter_at(total: usize, s: &[u8], name: Name) -> Letter
 impl Table {
     // The number of the name that stands at `s`, which is noted with its place if it is new.
     pub(crate) fn number(&mut self, total: usize, s: &[u8], name: Name) -> Result<u8, Stop>
-        ensures { MatchResult result (λ i. Numbered self.old self.new (letter_at total s.now name) i) (λ f. (8 ≤ place (names_in self.old) name) × (f ≡ stop_at ManyLetters s.now)) }
+        ensures { MatchResult result (λ i. Numbered self.old self.new (letter_at total s.now name) i) (λ f. (MOST_LETTERS ≤ place (names_in self.old) name) × (f ≡ stop_at ManyLetters s.now)) }
     {
         let count = self.count;
         if let Some(i) = find(&self.letters[..count], &name) {

@@ -61,7 +61,7 @@ pub(crate) fn reserved(w: &[u8]) -> Option<Sign>
 impl Name {
     // The name that a word spells.
     pub(crate) fn copied(word: &[u8]) -> Name
-        requires { length word.now ≤ 12 }
+        requires { length word.now ≤ NAME_BYTES }
         ensures { result ≡ name_of (length word.now) word.now }
     {
         let mut bytes = [0; NAME_BYTES];

@@ -1,11 +1,12 @@
 // The grammar, by recursive descent.
-ghost use Rattle.std.specs.Prelude.{◌≡◌, suc, ◌+◌, ◌<◌, ◌≤◌, [], MatchResult};
-ghost use Rattle.rules.specs.Signs.{stop_at, lex, sign};
+ghost use Rattle.std.specs.Prelude.{◌≡◌, suc, ◌+◌, ◌<◌, ◌≤◌, [], MatchOption, MatchResult};
+ghost use Rattle.rules.specs.Signs.{stop_at, lex, sign, bad};
 ghost use Rattle.rules.specs.Scan.{want};
 ghost use Rattle.rules.specs.Rest.{Halts, NextStep, halt, closer, rank_at};
 ghost use Rattle.rules.specs.Grammar.{rank_of, rightward};
 ghost use Rattle.rules.specs.Names.{names_in};
 ghost use Rattle.rules.specs.Descent.{Parsed, Built};
+ghost use Rattle.rules.specs.declared.sign.Sign.TheVariants.{Between};
 ghost use Rattle.rules.specs.declared.sign.Why.TheVariants.{ManyNodes};
 
 use crate::lex::next_sign;
@@ -58,15 +59,38 @@ fn closed(s: &[u8], depth: usize) -> Result<&[u8], Stop>
     }
 }
 
+// The sign of rank `k` that comes next at `s`, if one does, and what is behind it.
+fn joint(k: u8, s: &[u8]) -> Result<Option<(Binary, &[u8])>, Stop>
+    requires { (1 ≤ k) × (rank_at s.now ≤ k) }
+    ensures { MatchResult result (λ o. MatchOption o (rank_at s.now < k) (λ p. (lex s.now ≡ sign (Between p.0) p.1.now) × (rank_of p.0 ≡ k))) (λ f. lex s.now ≡ bad f) }
+{
+    match next_sign(s)? {
+        (Sign::Between(b), after) if b.rank() == k => Ok(Some((b, after))),
+        _ => Ok(None),
+    }
+}
+
 impl Spot {
     // Whether a sign at `s` may make a node.
     fn room(self, s: &[u8], table: &Table) -> Result<(), Stop>
-        ensures { MatchResult result (λ _. table.now.size + self.pending < 64) (λ f. (64 ≤ table.now.size + self.pending) × (f ≡ stop_at ManyNodes s.now)) }
+        ensures { MatchResult result (λ _. table.now.size + self.pending < MOST_NODES) (λ f. (MOST_NODES ≤ table.now.size + self.pending) × (f ≡ stop_at ManyNodes s.now)) }
     {
+        // Subtracts, since nothing bounds `pending`: a sum could be too large.
         if self.pending >= MOST_NODES - table.size {
             return Err(Stop::at(Why::ManyNodes, s));
         }
         Ok(())
+    }
+
+    // Behind a sign whose node is to come.
+    fn behind(self) -> Spot
+        requires { self.pending < MOST_NODES }
+        ensures { result ≡ record { total = self.total; depth = self.depth; pending = self.pending + 1 } }
+    {
+        Spot {
+            pending: self.pending + 1,
+            ..self
+        }
     }
 
     // An operand at `s`. Answers its node's number, and what is behind it.
@@ -87,11 +111,7 @@ impl Spot {
             }
             Sign::Before(u) => {
                 self.room(s, table)?;
-                let behind = Spot {
-                    pending: self.pending + 1,
-                    ..self
-                };
-                let (a, end) = behind.operand(rest, table)?;
+                let (a, end) = self.behind().operand(rest, table)?;
                 Ok((table.put(Node::Before(u, a)), end))
             }
             Sign::Open => {
@@ -113,7 +133,7 @@ impl Spot {
     // What binds tighter than level `k`.
     #[cycle(level_operand_tighter)]
     fn tighter<'a>(self, k: u8, s: &'a [u8], table: &mut Table) -> Result<(u8, &'a [u8]), Stop>
-        requires { (1 ≤ k) × (k ≤ 6) }
+        requires { (1 ≤ k) × (k ≤ TIGHTEST) }
         ensures { MatchResult result (λ p. Parsed self.total (suc k) s.now p.1.now self.depth self.pending table.old table.new p.0 × (rank_at p.1.now < suc k)) (λ f. Halts s.now (want self.depth (table.old.size + self.pending) (names_in table.old)) f) }
     {
         if k == TIGHTEST {
@@ -126,23 +146,13 @@ impl Spot {
     // Level `k` of the grammar: operands of what binds tighter, with the sign of rank `k` between them.
     #[cycle(level_operand_tighter)]
     fn level<'a>(self, k: u8, s: &'a [u8], table: &mut Table) -> Result<(u8, &'a [u8]), Stop>
-        requires { (1 ≤ k) × (k ≤ 6) }
+        requires { (1 ≤ k) × (k ≤ TIGHTEST) }
         ensures { MatchResult result (λ p. Parsed self.total k s.now p.1.now self.depth self.pending table.old table.new p.0 × (rank_at p.1.now < k)) (λ f. Halts s.now (want self.depth (table.old.size + self.pending) (names_in table.old)) f) }
     {
         let (mut left, mut rest) = self.tighter(k, s, table)?;
-        loop {
-            let (m, after) = next_sign(rest)?;
-            let Sign::Between(b) = m else {
-                return Ok((left, rest));
-            };
-            if b.rank() != k {
-                return Ok((left, rest));
-            }
+        while let Some((b, after)) = joint(k, rest)? {
             self.room(rest, table)?;
-            let behind = Spot {
-                pending: self.pending + 1,
-                ..self
-            };
+            let behind = self.behind();
             let (right, end) = if b.to_right() {
                 behind.level(k, after, table)?
             } else {
@@ -151,6 +161,7 @@ impl Spot {
             left = table.put(Node::Between(b, left, right));
             rest = end;
         }
+        Ok((left, rest))
     }
 }
 

@@ -1,5 +1,7 @@
 // A rule as a table of nodes, operands first. The last node is the whole rule.
 ghost use Rattle.std.specs.Prelude.{◌≡◌, ℕ, ◌-◌, ◌<◌, ◌≤◌, true, take};
+ghost use Rattle.rules.specs.declared.rule.TheConstants.{MOST_LETTERS, MOST_NODES};
+ghost use Rattle.std.proofs.Props.{props};
 ghost use Rattle.rules.specs.Tree.{fits, node_at, decode, flatten};
 
 use crate::name::Name;
@@ -25,8 +27,8 @@ pub struct Table {
     pub(crate) size: usize,
     pub(crate) letters: [Letter; MOST_LETTERS],
     pub(crate) count: usize,
-    ghost few: { size ≤ 64 },
-    ghost known: { count ≤ 8 },
+    ghost few: { size ≤ MOST_NODES },
+    ghost known: { count ≤ MOST_LETTERS },
 }
 
 // What is said of its size and count is the table's too: here readers of a rule find it.
@@ -34,8 +36,8 @@ pub struct Table {
 pub struct Rule {
     pub(crate) table: Table,
     ghost some: { 1 ≤ table.size },
-    ghost few: { table.size ≤ 64 },
-    ghost known: { table.count ≤ 8 },
+    ghost few: { table.size ≤ MOST_NODES },
+    ghost known: { table.count ≤ MOST_LETTERS },
     ghost ok: { (i : ℕ) → i < table.size → fits table.count i (node_at table.nodes i) ≡ true },
-    ghost flat: { ∥ flatten (decode (node_at (take table.size table.nodes)) (table.size - 1)) 0 ≡ take table.size table.nodes ∥₁ },
+    ghost flat: { flatten (decode (node_at (take table.size table.nodes)) (table.size - 1)) 0 ≡ take table.size table.nodes } by { Prim.hlevel props },
 }

@@ -19,7 +19,7 @@ invariant_of-result c =
           let low : 0 < t.size = omega arith in
           let first : node_at t.nodes 0 ≡ Node.Truth true = sym (get_or-take t.size t.nodes 0 (Node.Letter 0) low) ∙ ap (λ xs. get_or xs 0 (Node.Letter 0)) is in
           ap (λ j. fits t.count j (node_at t.nodes j)) z ∙ ap (fits t.count 0) first;
-      flat = ∣ ap (λ xs. flatten (decode (node_at xs) (t.size - 1)) 0) is ∙ ap (λ n. flatten (decode (node_at (Node.Truth true ∷ [])) (n - 1)) 0) s ∙ sym is ∣₁;
+      flat = ap (λ xs. flatten (decode (node_at xs) (t.size - 1)) 0) is ∙ ap (λ n. flatten (decode (node_at (Node.Truth true ∷ [])) (n - 1)) 0) s ∙ sym is;
     }
 
 pub returns : goal.returns

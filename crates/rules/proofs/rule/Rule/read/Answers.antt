@@ -29,7 +29,7 @@ invariant_of-self c =
       few = b.few;
       known = b.known;
       ok = built_fits b w room;
-      flat = ∣ built_flat b w space ∣₁;
+      flat = built_flat b w space;
     }
 
 pub returns : goal.returns

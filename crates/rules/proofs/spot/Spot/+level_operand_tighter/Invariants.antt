@@ -13,9 +13,9 @@ decreases-tighter l = 16 * length l.s.now + (13 - 2 * l.k)
 abbrev pub decreases-level : goal.decreases-level
 decreases-level l = 16 * length l.s.now + (14 - 2 * l.k)
 
-abbrev pub invariant-level-loop-m : goal.invariant-level-loop-m
-invariant-level-loop-m l =
+abbrev pub invariant-level-loop-b : goal.invariant-level-loop-b
+invariant-level-loop-b l =
     (a : Table) → Sofar l.self.total l.k l.s l.initial.rest l.self.depth l.self.pending a l.initial.table l.initial.left → Sofar l.self.total l.k l.s l.rest l.self.depth l.self.pending a l.table l.left
 
-abbrev pub decreases-level-loop-m : goal.decreases-level-loop-m
-decreases-level-loop-m l = length l.rest
+abbrev pub decreases-level-loop-b : goal.decreases-level-loop-b
+decreases-level-loop-b l = length l.rest
