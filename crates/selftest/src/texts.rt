@@ -170,15 +170,16 @@ pub fn spoiled(source: &mut Source, text: &[u8]) -> Result<Vec<u8>, AllocError> 
     Ok(out)
 }
 
+// An entry of a list of names. No closure, as one that gives a reference didn't prove.
+fn entry(source: &mut Source) -> &'static [u8] {
+    source.pick(&ENTRIES)
+}
+
 // A list of names, most often a good one.
 pub fn name_list(source: &mut Source) -> Result<Vec<&'static [u8]>, AllocError> {
     if source.one_in(3) {
-        // A loop: a closure for `several` that gives a reference didn't prove.
-        let mut names = Vec::new(source.heap);
-        for _ in 0..source.below(12) {
-            names.push(source.pick(&ENTRIES))?;
-        }
-        return Ok(names);
+        let count = source.below(12);
+        return source.several(count, entry);
     }
     let first = source.index(12);
     (0..source.index(10))
