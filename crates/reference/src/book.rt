@@ -146,6 +146,7 @@ impl Book<'_> {
     }
 
     // Does what is asked, or says why not. A look ahead is done as an event here.
+    // A switch, as the list of calls is compared with the library's.
     fn note(&mut self, asked: Asked) -> Result<(), Stop> {
         match asked {
             Asked::Event(code) | Asked::LookAhead(code) => self.note_event(code)?,

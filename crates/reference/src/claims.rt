@@ -222,7 +222,7 @@ impl Formula {
 // The numbers of the claims that one rests on.
 type Grounds = (Option<usize>, Option<usize>);
 
-// What a written list is made from.
+// What a written list is made from. The checker and the writer are apart, so that one tests the other.
 #[derive(Clone, Copy)]
 struct Writer<'a> {
     root: usize,

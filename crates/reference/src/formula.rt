@@ -1,7 +1,7 @@
 // A rule as a list of nodes, operands first.
 use crate::refusal::Stop;
 use crate::scan::{Scan, scanned};
-use crate::sign::{Infix, Prefix, Sign};
+use crate::sign::{Infix, Prefix, Sign, Token};
 use std::alloc::{AllocError, Global};
 
 // A name by the number of its letter, a constant, or an operator on the nodes of these numbers. All count from 1.
@@ -86,8 +86,15 @@ impl Yard {
         Ok(())
     }
 
-    fn take(&mut self, sign: Sign) -> Result<(), AllocError> {
+    // Takes in the next sign of a scanned text, which has a letter for each name.
+    fn take(&mut self, scan: &Scan, token: Token) -> Result<(), AllocError> {
+        let sign = token.sign;
         match sign {
+            Sign::Name => {
+                if let Some(letter) = scan.letter(token.text) {
+                    self.stand.settle(Node::Letter(letter))?;
+                }
+            }
             Sign::Truth(value) => self.stand.settle(Node::Truth(value))?,
             Sign::Close => {
                 self.settle_before(sign)?;
@@ -97,7 +104,7 @@ impl Yard {
                 self.settle_before(sign)?;
                 self.waiting.push(sign)?;
             }
-            Sign::Name | Sign::Open | Sign::Prefix(_) => self.waiting.push(sign)?,
+            Sign::Open | Sign::Prefix(_) => self.waiting.push(sign)?,
         }
         Ok(())
     }
@@ -112,10 +119,7 @@ fn nodes_of(heap: Global, scan: &Scan) -> Result<Vec<Node>, AllocError> {
         waiting: Vec::new(heap),
     };
     for token in scan.tokens.iter() {
-        match scan.letter(token.text) {
-            Some(letter) => yard.stand.settle(Node::Letter(letter))?,
-            None => yard.take(token.sign)?,
-        }
+        yard.take(scan, *token)?;
     }
     yard.settle_before(Sign::Close)?;
     let Yard {

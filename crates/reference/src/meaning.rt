@@ -49,7 +49,7 @@ impl Values {
         self.at(node, place) == Grade::Kept
     }
 
-    // `always` and `eventually` are the two quantifiers; a function for both would hide which is which
+    // `always` and `eventually` are the two quantifiers; a function for both would hide which is which.
     fn always(&self, x: usize, place: usize) -> Grade {
         (place..=self.events)
             .map(|i| self.at(x, i))

@@ -61,7 +61,7 @@ pub fn all_rests(
     seen.insert(formula.nodes_holding(heap, &[])?)?;
     let mut rests: Vec<Vec<Set>> = Vec::new(heap);
     rests.push(Vec::new(heap))?;
-    // the list grows as it is read, so no iterator can hold it
+    // The list grows as it is read, so no iterator can hold it. The bound is there only so that the loop is seen to end.
     for i in 0..100_000 {
         let Some(rest) = rests.get(i) else {
             break;

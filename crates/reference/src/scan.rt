@@ -82,6 +82,7 @@ pub fn scanned(heap: Global, text: &[u8]) -> Result<Scan<'_>, Stop> {
         nodes: 0,
         wants_operand: true,
     };
+    // `next` is where the last sign ends; a `while` over what is left would need said that no sign is empty.
     let mut next: usize = 0;
     for (i, b) in text.iter().enumerate() {
         if i >= next && !is_blank(*b) {

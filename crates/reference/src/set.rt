@@ -12,6 +12,7 @@ impl Set {
         requires ends { IsFinite (I.remaining flags) }
     {
         let mut set: u64 = 0;
+        // By doubling: of a list of any kind nothing is known that bounds a shift.
         let mut worth: u64 = 1;
         for flag in flags {
             if flag {

@@ -10,23 +10,22 @@ use reference::{Asked, Book, Finality, Kind, Told, is_term};
 use rules::Fault;
 use std::alloc::{AllocError, Global};
 
+// A call, more often a mark if `marking`.
+fn some_call(source: &mut Source, kind: Kind, marking: bool) -> Call {
+    match source.below(if marking { 20 } else { 12 }) {
+        0..=4 => Call::Event(some_code(source, kind)),
+        5 | 6 => Call::LookAhead(some_code(source, kind)),
+        8 | 9 => Call::Back,
+        10 => Call::Keep,
+        11 => Call::Standing,
+        _ => Call::Mark,
+    }
+}
+
 // A list of calls: events most often, and marks more often than they are taken back.
 pub fn some_calls(source: &mut Source, kind: Kind, count: u32) -> Result<Vec<Call>, AllocError> {
-    let mut calls = Vec::new(source.heap);
     let marking = source.one_in(5);
-    for _ in 0..count {
-        let call = match source.below(if marking { 20 } else { 12 }) {
-            0..=4 => Call::Event(some_code(source, kind)),
-            5 | 6 => Call::LookAhead(some_code(source, kind)),
-            7 => Call::Mark,
-            8 | 9 => Call::Back,
-            10 => Call::Keep,
-            11 => Call::Standing,
-            _ => Call::Mark,
-        };
-        calls.push(call)?;
-    }
-    Ok(calls)
+    source.several(count, |source| some_call(source, kind, marking))
 }
 
 // Both types are other crates', so this is a function and no `From`.
@@ -46,7 +45,7 @@ fn same_residual(residual: polynomials::Residual, table: &[bool]) -> bool {
     (0..=u8::MAX).all(|product| residual.bit(product) == is_term(table, product))
 }
 
-// The like.
+// As `asked`: a function and no `From`.
 pub fn finality(finality: monitor::Finality) -> Finality {
     match finality {
         monitor::Finality::SoFar => Finality::SoFar,
@@ -54,7 +53,7 @@ pub fn finality(finality: monitor::Finality) -> Finality {
     }
 }
 
-pub fn same_standing(standing: Standing, told: &Told) -> bool {
+fn same_standing(standing: Standing, told: &Told) -> bool {
     standing.verdict.grade() == told.verdict
         && finality(standing.finality) == told.finality
         && standing.count == told.count

@@ -14,6 +14,7 @@ fn number(n: u32) -> Option<usize> {
     (n != 0).then_some(n as usize)
 }
 
+// A function and no `From`: both types are other crates'.
 fn plain(claim: Claim) -> Claimed {
     Claimed {
         said: Said {
@@ -38,7 +39,7 @@ const BLANK: Claim = Claim {
     second: 7,
 };
 
-// A number near this one.
+// A number near this one. A draw, not a kind.
 fn nudged(source: &mut Source, n: u32) -> u32 {
     match source.below(6) {
         0 => 0,
@@ -48,7 +49,7 @@ fn nudged(source: &mut Source, n: u32) -> u32 {
     }
 }
 
-// The claim with a field changed.
+// The claim with a field changed. A draw, not a kind.
 fn changed(source: &mut Source, claim: Claim) -> Claim {
     let mut c = claim;
     match source.below(5) {

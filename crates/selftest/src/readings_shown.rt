@@ -1,6 +1,7 @@
 // Comparing what readings say, and what they refuse.
 use crate::same::same;
 use crate::source::Source;
+use crate::texts::NAMES;
 use readings::{Named, Panel, Words};
 use reference::{Grade, Kind, Reading, Refusal, Set};
 use std::alloc::AllocError;
@@ -47,7 +48,7 @@ pub fn same_shown<R: Paired>(source: &mut Source, names: &[&[u8]], list: &[u8]) 
     };
     let code = some_code(source, R::KIND);
     let set = (source.below(8) & 255) as u8;
-    let sought = crate::texts::name(source.index(12));
+    let sought = source.pick(&NAMES);
     let (on, doubt) = reading.show(code, list);
     plain.places(Grade::Kept, code, list) == Set(u64::from(on))
         && plain.places(Grade::Unclear, code, list) == Set(u64::from(doubt))
@@ -59,9 +60,6 @@ pub fn same_shown<R: Paired>(source: &mut Source, names: &[&[u8]], list: &[u8]) 
 
 // A list of numbers, some of which no name has.
 pub fn some_numbers(source: &mut Source) -> Result<Vec<u8>, AllocError> {
-    let mut list = Vec::new(source.heap);
-    for _ in 0..source.below(11) {
-        list.push((source.below(10) & 255) as u8)?;
-    }
-    Ok(list)
+    let count = source.below(11);
+    source.several(count, |source| (source.below(10) & 255) as u8)
 }

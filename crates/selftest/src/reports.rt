@@ -1,6 +1,6 @@
 // Comparing the reports on whole files.
 use crate::source::Source;
-use crate::texts::{Shape, name, rule_text, spoiled};
+use crate::texts::{NAMES, Shape, name, rule_text, spoiled};
 use reference::Kind;
 use std::alloc::{AllocError, Global};
 
@@ -20,7 +20,7 @@ fn push_names(out: &mut Vec<u8>, count: usize) -> Result<(), AllocError> {
 fn push_event(source: &mut Source, kind: Kind, out: &mut Vec<u8>) -> Result<(), AllocError> {
     out.extend_from_slice(b"event\t")?;
     match kind {
-        Kind::Words => out.extend_from_slice(name(source.index(12)))?,
+        Kind::Words => out.extend_from_slice(source.pick(&NAMES))?,
         Kind::Panel => {
             let levels = source.below(256);
             let answers = if source.one_in(8) {

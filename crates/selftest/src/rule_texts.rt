@@ -31,6 +31,7 @@ fn counted(i: u8) -> usize {
     usize::from(i).saturating_add(1)
 }
 
+// A function and no `From`: both types are other crates'.
 fn plain(node: rules::Node) -> Node {
     match node {
         rules::Node::Letter(l) => Node::Letter(counted(l)),

@@ -19,7 +19,6 @@ use verdicts::{ThreeWay, YesNo};
 // Where the inputs come from, and what was found.
 #[derive(Drop)]
 pub struct Session {
-    pub heap: Global,
     pub source: Source,
     pub tally: Tally,
 }
@@ -35,7 +34,6 @@ struct Subject {
 impl Session {
     pub fn new(heap: Global, seed: u64) -> Session {
         Session {
-            heap,
             source: Source::new(heap, seed),
             tally: Tally::new(heap),
         }
@@ -66,9 +64,9 @@ impl Session {
     fn texts(&mut self) -> Result<(), AllocError> {
         let shape = self.shape();
         let text = rule_text(&mut self.source, shape)?;
-        compare_text(self.heap, text.as_slice(), &mut self.tally)?;
+        compare_text(self.source.heap, text.as_slice(), &mut self.tally)?;
         let bad = spoiled(&mut self.source, text.as_slice())?;
-        compare_text(self.heap, bad.as_slice(), &mut self.tally)
+        compare_text(self.source.heap, bad.as_slice(), &mut self.tally)
     }
 
     fn lists<R: Paired>(&mut self) -> Result<(), AllocError> {
@@ -86,11 +84,9 @@ impl Session {
     }
 
     fn events<R: Paired>(&mut self) -> Result<Vec<u32>, AllocError> {
-        let mut events = Vec::new(self.heap);
-        for _ in 0..self.source.below(8) {
-            events.push(some_code(&mut self.source, R::KIND))?;
-        }
-        Ok(events)
+        let count = self.source.below(8);
+        self.source
+            .several(count, |source| some_code(source, R::KIND))
     }
 
     // What is lent: as much as is needed, a little more, or seldom one less.
@@ -107,7 +103,7 @@ impl Session {
             ours,
             plain,
             trace: events.as_slice(),
-            record: plain.record(self.heap, events.as_slice())?,
+            record: plain.record(self.source.heap, events.as_slice())?,
         };
         self.verdicts(&trial)?;
         self.claims(&trial)
@@ -121,9 +117,9 @@ impl Session {
             marks: self.room(marks),
             scratch: self.room(nodes.saturating_mul(2)),
         };
-        let alike = trial.same_verdict::<YesNo>(self.heap, room)?;
+        let alike = trial.same_verdict::<YesNo>(self.source.heap, room)?;
         self.tally.counts.verdicts.note(alike);
-        let alike = trial.same_verdict::<ThreeWay>(self.heap, room)?;
+        let alike = trial.same_verdict::<ThreeWay>(self.source.heap, room)?;
         self.tally.counts.verdicts.note(alike);
         for takes_doubt in [false, true] {
             let heard = trial.plain.check_events(trial.trace, takes_doubt);
@@ -134,7 +130,7 @@ impl Session {
 
     // The claims that are written, and some lists made from them.
     fn claims<R: Paired>(&mut self, trial: &Trial<R>) -> Result<(), AllocError> {
-        let alike = trial.same_written(self.heap)?;
+        let alike = trial.same_written(self.source.heap)?;
         self.tally.counts.written.note(alike);
         for _ in 0..4 {
             trial.compare_checks(&mut self.source, &mut self.tally)?;
@@ -143,7 +139,7 @@ impl Session {
     }
 
     fn monitor<R: Paired>(&mut self, ours: BoundRule<R>, plain: &Bound) -> Result<(), AllocError> {
-        let counted = answered(count_obligations(self.heap, &plain.formula))?;
+        let counted = answered(count_obligations(self.source.heap, &plain.formula))?;
         let count = Monitor::check(&ours);
         let alike = same(count, &counted, |count, plain| count == *plain);
         self.tally.counts.openings.note(alike);
@@ -153,9 +149,9 @@ impl Session {
         }
         let length = self.source.below(16);
         let calls = some_calls(&mut self.source, R::KIND, length)?;
-        let mut book = open_book(self.heap, plain)?;
+        let mut book = open_book(self.source.heap, plain)?;
         compare_calls(
-            self.heap,
+            self.source.heap,
             ours,
             calls.as_slice(),
             &mut book,
@@ -175,10 +171,10 @@ impl Session {
         } else {
             shape.names
         };
-        let names = first_names(self.heap, known)?;
+        let names = first_names(self.source.heap, known)?;
         match (
             rule.read(text.as_slice()),
-            answered(read_formula(self.heap, text.as_slice()))?,
+            answered(read_formula(self.source.heap, text.as_slice()))?,
         ) {
             (Ok(()), Ok(formula)) => Ok(Some(Subject {
                 rule,
@@ -205,7 +201,7 @@ impl Session {
             kind: R::KIND,
             names: names.as_slice(),
         };
-        let plain = answered(plain.bind(self.heap, formula))?;
+        let plain = answered(plain.bind(self.source.heap, formula))?;
         let alike = same(BoundRule::check(&rule, &reading), &plain, |_, _| true);
         self.tally.counts.bindings.note(alike);
         self.tally.met(&plain)?;
@@ -224,7 +220,7 @@ impl Session {
     }
 
     pub fn report(&mut self, file: &[u8]) -> Result<(), AllocError> {
-        let alike = same_report(self.heap, file)?;
+        let alike = same_report(self.source.heap, file)?;
         self.tally.counts.reports.note(alike);
         Ok(())
     }

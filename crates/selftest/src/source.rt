@@ -1,5 +1,5 @@
 // Numbers that look random: a linear congruential generator of 64 bits.
-use std::alloc::Global;
+use std::alloc::{AllocError, Global};
 
 // The generator, and the heap for what is made from its numbers.
 #[derive(Clone, Copy)]
@@ -44,5 +44,20 @@ impl Source {
     pub fn pick<T: Copy + Default>(&mut self, list: &[T]) -> T {
         let i = self.index(list.len());
         list.get(i).copied().unwrap_or_default()
+    }
+
+    // So many things, made one after another.
+    pub fn several<T: Drop, F: Fn(&mut Source) -> T>(
+        &mut self,
+        count: u32,
+        some: F,
+    ) -> Result<Vec<T>, AllocError>
+        requires { F.IsAlwaysCallable some }
+    {
+        let mut out = Vec::new(self.heap);
+        for _ in 0..count {
+            out.push(some(self))?;
+        }
+        Ok(out)
     }
 }

@@ -6,7 +6,7 @@ const PREFIXES: [&[u8]; 4] = [b"!", b"[]", b"<>", b"o "];
 
 const JOINS: [&[u8]; 6] = [b" U ", b"/\\", b"++", b"\\/", b"->", b"<->"];
 
-const NAMES: [&[u8]; 12] = [
+pub const NAMES: [&[u8]; 12] = [
     b"a",
     b"b",
     b"c",
@@ -139,49 +139,30 @@ pub fn rule_text(source: &mut Source, shape: Shape) -> Result<Vec<u8>, AllocErro
     Ok(bytes)
 }
 
-// What becomes of one byte of a text.
-#[derive(Clone, Copy, Default)]
-enum Spoiling {
-    #[default]
-    LeaveOut,
-    Change,
-    PutBefore,
-    PutName,
-}
-
-const SPOILINGS: [Spoiling; 4] = [
-    Spoiling::LeaveOut,
-    Spoiling::Change,
-    Spoiling::PutBefore,
-    Spoiling::PutName,
-];
-
-impl Spoiling {
-    fn put(self, out: &mut Vec<u8>, source: &mut Source, byte: u8) -> Result<(), AllocError> {
-        match self {
-            Spoiling::LeaveOut => {}
-            Spoiling::Change => out.push(source.pick(SPOILERS))?,
-            Spoiling::PutBefore => {
-                out.push(source.pick(SPOILERS))?;
-                out.push(byte)?;
-            }
-            Spoiling::PutName => {
-                out.extend_from_slice(LONG)?;
-                out.push(byte)?;
-            }
+// What becomes of the byte that is spoiled. A draw, not a kind.
+fn put_spoiled(out: &mut Vec<u8>, source: &mut Source, byte: u8) -> Result<(), AllocError> {
+    match source.below(4) {
+        0 => {}
+        1 => out.push(source.pick(SPOILERS))?,
+        2 => {
+            out.push(source.pick(SPOILERS))?;
+            out.push(byte)?;
         }
-        Ok(())
+        _ => {
+            out.extend_from_slice(LONG)?;
+            out.push(byte)?;
+        }
     }
+    Ok(())
 }
 
 // The text with a byte changed, put in or left out, or with a name put in.
 pub fn spoiled(source: &mut Source, text: &[u8]) -> Result<Vec<u8>, AllocError> {
     let at = source.index(text.len());
-    let how = source.pick(&SPOILINGS);
     let mut out = Vec::new(source.heap);
     for (i, b) in text.iter().enumerate() {
         if i == at {
-            how.put(&mut out, source, *b)?;
+            put_spoiled(&mut out, source, *b)?;
         } else {
             out.push(*b)?;
         }
@@ -189,14 +170,16 @@ pub fn spoiled(source: &mut Source, text: &[u8]) -> Result<Vec<u8>, AllocError> 
     Ok(out)
 }
 
+// An entry of a list of names. No closure, as one that gives a reference didn't prove.
+fn entry(source: &mut Source) -> &'static [u8] {
+    source.pick(&ENTRIES)
+}
+
 // A list of names, most often a good one.
 pub fn name_list(source: &mut Source) -> Result<Vec<&'static [u8]>, AllocError> {
     if source.one_in(3) {
-        let mut names = Vec::new(source.heap);
-        for _ in 0..source.below(12) {
-            names.push(source.pick(&ENTRIES))?;
-        }
-        return Ok(names);
+        let count = source.below(12);
+        return source.several(count, entry);
     }
     let first = source.index(12);
     (0..source.index(10))
