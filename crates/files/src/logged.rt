@@ -34,6 +34,7 @@ impl Logged for Panel {
         let (levels, answers) = split_once(text, b'\t')?;
         let level = byte(levels)?;
         let answer = byte(answers)?;
+        // The first answer is worth 256, by what a panel's code is; its reading keeps that number to itself.
         Some(level as u32 + answer as u32 * 256)
     }
 }

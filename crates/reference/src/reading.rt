@@ -17,6 +17,7 @@ pub enum Kind {
     Panel,
 }
 
+// Two numbers of a kind, each with a meaning of its own.
 impl Kind {
     fn most_names(self) -> usize {
         match self {

@@ -6,6 +6,7 @@ ghost use Rattle.verdicts.specs.Step.{Below, Known, unary_end, binary_end, unary
 use crate::scale::Scale;
 use rules::{Binary, Node, Unary};
 
+// The constant on any scale. `YesNo::from` is that of one, whose ends are made by it.
 fn truth_value<S: Scale>(v: bool) -> S
     ensures { result ≡ constant S.ops v }
 {
