@@ -26,7 +26,8 @@ fn end_row<S: Scale>(rule: &Rule, here: &mut [S])
     }
 }
 
-// The values of all nodes at an event with these letters, from those one place on.
+// The values of all nodes at an event with these letters, from those one place on. A loop of its own: with a closure for the
+// step it would say no less, since each of the two rows is promised something else.
 fn row<S: Scale>(rule: &Rule, letters: &[S], next: &[S], here: &mut [S])
     requires letters_len { length letters.now ≡ letter_count rule.now }
     requires next_len { length next.now ≡ node_count rule.now }
