@@ -1,8 +1,8 @@
 use Rattle.std.proofs.Common.{◌≡◌, ◌+◌, ◌*◌, ◌%◌, ◌^◌, ◌<◌, cond, take, get_or, refl, sym, ap, ◌∙◌, arith, one-mul, mod-eq_of_lt, pow-add}
-use Rattle.std.proofs.lemmas.List.{get_or-take, length-take, take_all}
+use Rattle.std.proofs.lemmas.List.{get_or-take, length-take}
 use Rattle.std.proofs.lemmas.Nat.{pow_below}
 use Rattle.readings.specs.Meaning.{worth}
-use Rattle.readings.proofs.Worths.{cond_most, first_eight, worth_next}
+use Rattle.readings.proofs.Worths.{cond_most, worth_next}
 use Rattle.readings.proofs.set.set_of.Goals as goal
 use Rattle.readings.proofs.set.set_of.Goals.{then-passes, else-passes}
 
@@ -26,7 +26,3 @@ loop-i-preserved g c =
       small = omega (arith, grown, cond_most c.passes.result (2 ^ i), pow-add 2 i 1, c.loop-i.invariant.small);
       so_far = λ p agree. grown ∙ ap (λ t. c.loop-i.set + cond t (2 ^ i) 0) (agree (get_or xs i 0) c.passes.result byte c.passes.ensures) ∙ worth_next p xs i (2 ^ i) c.loop-i.set c.loop-i-test.true refl (c.loop-i.invariant.so_far p agree);
     }
-
-pub returns : goal.returns
-returns g c = λ p agree.
-    c.loop-i.invariant.so_far p agree ∙ ap (worth p 0) (take_all c.loop-i.i (take c.min.result c.args.entries.now) (omega arith) ∙ first_eight c.args.entries.now c.min.result (omega (arith, c.min.ensures)) (omega (arith, c.min.ensures)))
