@@ -1,4 +1,4 @@
-use Rattle.std.proofs.Common.{◌∷◌, ◌++◌, sym, ◌∙◌, subst, ap₂, arith}
+use Rattle.std.proofs.Common.{sym, ◌∙◌, subst, arith}
 use Rattle.files.specs.Event.{ReadsState}
 use Rattle.files.proofs.Spelling.{state_parts}
 use Rattle.files.proofs.logged.PanelLogged.code.Goals as goal
@@ -16,10 +16,3 @@ pub returns-in_err-answer : goal.returns-in_err-answer
 returns-in_err-answer c =
     subst (ReadsState c.args.text.now) (sym c.from_residual-in_err-answer.ensures) (λ l a small few e.
     c.in_err-answer.ensures a few (c.in_ok-levels.ensures.back_is ∙ (state_parts c.args.text.now l a small e).2))
-
-pub returns : goal.returns
-returns c =
-    let parts = c.in_ok-levels.ensures in
-    let level = c.in_ok-level.ensures in
-    let answer = c.in_ok-answer.ensures in
-    (c.in_ok-level.level, c.in_ok-answer.answer, level.0, answer.0, parts.whole ∙ ap₂ (λ x y. x ++ (9 ∷ y)) level.1 answer.1, omega arith)

@@ -1,24 +1,14 @@
-use Rattle.std.proofs.Common.{◌≡◌, ℕ, ◌<◌, List, sym, ap, ◌∙◌, subst, arith, length-set}
+use Rattle.std.proofs.Common.{◌≡◌, ℕ, ◌<◌, List, ap, ◌∙◌, arith, length-set}
 use Rattle.rules.specs.Rules.{node_count}
 use Rattle.rules.specs.Tree.{node_at}
 use Rattle.rules.specs.declared.node.Node.{Node}
-use Rattle.verdicts.specs.Step.{Below}
 use Rattle.polynomials.specs.Held.{vectors, no_bits}
 use Rattle.polynomials.specs.Polynomial.{value}
 use Rattle.polynomials.proofs.Stored.{store_more}
 use Rattle.progression.specs.Obligations.{node_of}
 use Rattle.progression.specs.Progress.{poly_at}
-use Rattle.progression.proofs.Decoded.{node_below}
 use Rattle.progression.proofs.Tabled.{node_more}
 use Rattle.progression.proofs.plan.Plan.node_tables.Goals as goal
-
-pub node_table-requires : goal.node_table-requires
-node_table-requires c =
-    let r = c.args.self.now.rule in
-    let j = c.loop-j.j in
-    let low : j < node_count r = omega (arith, c.nodes-nodes.ensures.long) in
-    let same : node_at c.nodes-nodes.result.now j ≡ node_of r j = ap (λ (ns : List Node). node_at ns j) c.nodes-nodes.ensures.same in
-    record { j_bound = omega (arith, r.few); below = subst (Below j) (sym same) (node_below r j low) }
 
 pub loop-j-preserved : goal.loop-j-preserved
 loop-j-preserved c =
