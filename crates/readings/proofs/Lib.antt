@@ -2,5 +2,4 @@ pub mod Bits
 pub mod Candidate
 pub mod Found
 pub mod Gathering
-pub mod Marks
 pub mod Worths

@@ -10,7 +10,7 @@ use crate::mark::Mark;
 use crate::named::Named;
 use crate::panel::{NAMES, Panel};
 use crate::reading::Reading;
-use crate::set::{has, set_of};
+use crate::set::{PLACES, bit, has, set_of};
 use rules::Fault;
 
 // The number of codes.
@@ -48,7 +48,7 @@ fn told_mark(answer: bool, level: bool) -> Mark
 fn is_asked(names: &[u8], set: u8, name: u8) -> bool
     ensures { result ≡ asked names.now set name (min (length names.now) 8) }
 {
-    let mut places = names.iter().enumerate();
+    let mut places = names[..names.len().min(PLACES)].iter().enumerate();
     places.any(|(i, other)| *other == name && has(set, i))
 }
 
@@ -74,9 +74,7 @@ impl Reading for Panel {
             return Mark::Off;
         }
         let i = name as usize - 1;
-        let answers = (code / ANSWERS) as u8;
-        let levels = (code % ANSWERS) as u8;
-        told_mark(has(answers, i), has(levels, i))
+        told_mark(bit(code / ANSWERS, i), bit(code % ANSWERS, i))
     }
 
     // With all answered the levels are free. So a set is possible if it has all the places that it spreads to, and no other.

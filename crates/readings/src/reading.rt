@@ -3,7 +3,7 @@ ghost use Rattle.std.specs.Prelude.{◌≡◌, ℕ, ◌<◌, ◌≤◌, List, if
 ghost use Rattle.readings.specs.Meaning.{Meaning, mark_of, on_set, doubt_set, Possible};
 
 use crate::mark::Mark;
-use crate::set::set_of;
+use crate::set::sets_of;
 
 pub trait Reading {
     ghost meaning: { Self → Meaning };
@@ -26,9 +26,7 @@ pub trait Reading {
         ensures doubt { result.1 ≡ doubt_set (meaning self.now) code names.now }
         ensures apart { bit_and result.0 result.1 ≡ 0 }
     {
-        let on = set_of(names, |name| self.mark(code, name) == Mark::On);
-        let doubt = set_of(names, |name| self.mark(code, name) == Mark::Doubt);
-        (on, doubt)
+        sets_of(names, |name| self.mark(code, name))
     }
 
     // Whether some code shows just this set on, and nothing in doubt. This tries every code.
