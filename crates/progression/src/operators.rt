@@ -1,5 +1,5 @@
 // The operators on truth tables: whether a vector is in a table is the value at that vector.
-ghost use Rattle.std.specs.Prelude.{◌<◌, slice_index};
+ghost use Rattle.std.specs.Prelude.{◌≡◌, ◌<◌, slice_index};
 ghost use Rattle.verdicts.specs.Step.{Below, unary_row, binary_row, step_row};
 ghost use Rattle.polynomials.specs.Held.{vectors, vectors_of};
 ghost use Rattle.polynomials.specs.Sets.{in_set};
@@ -7,8 +7,14 @@ ghost use Rattle.progression.specs.Progress.{letters_in};
 ghost use Rattle.progression.specs.Tables.{bools, TruthTable};
 
 use polynomials::{Residual, VectorSet};
-use readings::has;
-use rules::{Binary, MOST_NODES, Node, Unary};
+use rules::{Binary, MOST_LETTERS, MOST_NODES, Node, Unary};
+
+// Whether letter l is in the set. A function of its own, since this crate knows nothing of readings, which have the like.
+fn is_on(letters: u8, l: u8) -> bool
+    ensures { result ≡ letters_in letters l }
+{
+    (l as usize) < MOST_LETTERS && letters >> l & 1 == 1
+}
 
 // A function and no `From`: neither type is this crate's.
 fn constant(v: bool) -> VectorSet
@@ -67,7 +73,7 @@ pub(crate) fn node_table(
     ensures { TruthTable result (λ v. step_row bools (letters_in letters) (λ a. vectors_of tables.now a v) (λ a. in_set (slice_index numbers.now a) v) (in_set (slice_index numbers.now j) v) node) }
 {
     match node {
-        Node::Letter(l) => constant(has(letters, l as usize)),
+        Node::Letter(l) => constant(is_on(letters, l)),
         Node::Truth(v) => constant(v),
         Node::Before(op, a) => unary(
             op,

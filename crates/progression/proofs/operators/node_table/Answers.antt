@@ -1,7 +1,5 @@
 use Rattle.std.proofs.Common.{◌∙◌}
-use Rattle.polynomials.specs.Sets.{bit_at}
 use Rattle.progression.proofs.operators.node_table.Goals as goal
 
 pub returns-in-Letter : goal.returns-in-Letter
-unfolding bit_at
-returns-in-Letter c = rw c.in-Letter.is (λ v h. c.constant.ensures v h ∙ c.has.ensures)
+returns-in-Letter c = rw c.in-Letter.is (λ v h. c.constant.ensures v h ∙ c.is_on.ensures)
