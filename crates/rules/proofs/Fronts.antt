@@ -23,8 +23,9 @@ live_try : (x : ℕ) (ps : List ℕ) (m : Sign) (b : ℕ) (s : List ℕ) (e : Le
 live_try x ps m b s e i h =
     cond_both (starts (x ∷ ps) (b ∷ s)) (sign m (drop (length ps) s)) e (λ l. Live l (suc (length s))) (λ _. (i, omega (arith, length-drop (length ps) s))) (λ _. h)
 
-live_mark : (b : ℕ) (s : List ℕ) → Live (marked (b ∷ s)) (suc (length s))
-live_mark b s =
+live_mark : (s : List ℕ) → Live (marked s) (length s)
+live_mark [] = tt
+live_mark (b ∷ s) =
     live_try 33 [] _ b s _ refl
     (live_try 40 [] _ b s _ refl
     (live_try 41 [] _ b s _ refl
@@ -67,7 +68,7 @@ live_word b s e =
 
 live_at : (b : ℕ) (s : List ℕ) → Live (lex_at (b ∷ s)) (suc (length s))
 live_at b s =
-    cond_both (is_letter (class b)) (worded (b ∷ s)) (marked (b ∷ s)) (λ l. Live l (suc (length s))) (live_word b s) (λ _. live_mark b s)
+    cond_both (is_letter (class b)) (worded (b ∷ s)) (marked (b ∷ s)) (λ l. Live l (suc (length s))) (live_word b s) (λ _. live_mark (b ∷ s))
 
 -- A SIGN TAKES A BYTE
 

@@ -1,12 +1,12 @@
 -- What a step rests on, and a loop of steps. Assumes nothing.
-use Rattle.std.proofs.Common.{◌≡◌, ℕ, ◌+◌, ◌<◌, ◌≢◌, List, length, set, refl, ◌∙◌, arith, get_or-set_other, get_or-set_same, below_more}
+use Rattle.std.proofs.Common.{◌≡◌, ℕ, ◌+◌, ◌<◌, ◌≤◌, ◌≢◌, List, length, set, refl, ◌∙◌, arith, get_or-set_other, get_or-set_same, below_more}
 use Rattle.rules.specs.Tree.{decode, node_at}
 use Rattle.rules.specs.declared.node.Node.{Node}
 use Rattle.verdicts.specs.Scale.{Ops}
 use Rattle.verdicts.specs.Meaning.{means}
 use Rattle.verdicts.specs.Step.{Below, step_end, step_row, at, Valued}
 
-pub below_up : (i j : ℕ) (n : Node) → i < j → Below i n → Below j n
+pub below_up : (i j : ℕ) (n : Node) → i ≤ j → Below i n → Below j n
 below_up i j (Node.Letter l) up h = tt
 below_up i j (Node.Truth v) up h = tt
 below_up i j (Node.Before u a) up h = omega arith
