@@ -27,8 +27,12 @@ fn plain(b: u8) -> u8 {
     }
 }
 
+// A push for each byte: `extend` is dear for a short piece, and a piece is pushed many times.
 fn push_piece(out: &mut Vec<u8>, piece: &str) -> Result<(), AllocError> {
-    out.extend(piece.bytes().map(plain))
+    for b in piece.bytes() {
+        out.push(plain(b))?;
+    }
+    Ok(())
 }
 
 fn push_times(out: &mut Vec<u8>, times: usize, piece: &str) -> Result<(), AllocError> {

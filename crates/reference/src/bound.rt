@@ -25,17 +25,12 @@ impl Bound {
     }
 
     // Whether some event does.
-    pub(crate) fn some_doubt(&self, events: &[u32]) -> bool {
+    pub fn some_doubt(&self, events: &[u32]) -> bool {
         events.iter().any(|code| self.doubted(*code))
     }
 
     // Why an event of this number is refused, if it is.
-    pub(crate) fn check_event(
-        &self,
-        code: u32,
-        number: usize,
-        takes_doubt: bool,
-    ) -> Result<(), Refusal> {
+    pub fn check_event(&self, code: u32, number: usize, takes_doubt: bool) -> Result<(), Refusal> {
         if code >= self.kind.codes() {
             return Err(Reason::HighCode.at(number));
         }
@@ -68,7 +63,7 @@ impl Bound {
     }
 
     // The set of the letters that are on at a code.
-    pub(crate) fn letters_on(&self, code: u32) -> Set {
+    pub fn letters_on(&self, code: u32) -> Set {
         Set::of(
             self.numbers
                 .iter()
@@ -77,10 +72,15 @@ impl Bound {
     }
 
     // The sets of letters that some code shows, with none in doubt.
-    pub(crate) fn possible_sets(&self, heap: Global) -> Result<BTreeSet<Set>, AllocError> {
-        (0..self.kind.codes())
-            .filter(|code| !self.doubted(*code))
-            .map(|code| self.letters_on(code))
-            .collect(heap)
+    pub fn possible_sets(&self, heap: Global) -> Result<BTreeSet<Set>, AllocError> {
+        // A list first: most codes show what others show, and to ask a set of the library for each code is dear.
+        let mut sets = Vec::new(heap);
+        for code in (0..self.kind.codes()).filter(|code| !self.doubted(*code)) {
+            let set = self.letters_on(code);
+            if !sets.as_slice().contains(&set) {
+                sets.push(set)?;
+            }
+        }
+        sets.into_iter().collect(heap)
     }
 }

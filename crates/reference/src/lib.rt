@@ -29,4 +29,4 @@ pub use reading::{Kind, Reading};
 pub use refusal::{Layer, Reason, Refusal, Stop};
 pub use residue::is_term;
 pub use set::Set;
-pub use sign::{Infix, Prefix};
+pub use sign::{Infix, Prefix, Sign};

@@ -134,7 +134,7 @@ impl Formula {
     }
 
     // The verdict: the whole rule at place 1.
-    pub(crate) fn verdict(&self, heap: Global, record: &Record) -> Result<Grade, AllocError> {
+    pub fn verdict(&self, heap: Global, record: &Record) -> Result<Grade, AllocError> {
         let values = self.values(heap, record)?;
         Ok(values.at(self.root(), 1))
     }

@@ -36,7 +36,7 @@ impl Kind {
     }
 
     // The mark of the name of this number at a code.
-    pub(crate) fn mark(self, code: u32, number: usize) -> Grade {
+    pub fn mark(self, code: u32, number: usize) -> Grade {
         let answers = Set(u64::from(code / 256));
         let levels = Set(u64::from(code % 256));
         match self {

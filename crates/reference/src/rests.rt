@@ -36,19 +36,11 @@ impl Formula {
     }
 }
 
-// The rests that are one set longer than this one.
-fn longer(
-    heap: Global,
-    possible: &BTreeSet<Set>,
-    rest: &[Set],
-) -> Result<Vec<Vec<Set>>, AllocError> {
-    let mut out = Vec::new(heap);
-    for set in possible.iter() {
-        let mut sets = vec![in heap; *set]?;
-        sets.extend_from_slice(rest)?;
-        out.push(sets)?;
-    }
-    Ok(out)
+// The rest that begins with a set and goes on as another.
+fn longer(heap: Global, set: Set, rest: &[Set]) -> Result<Vec<Set>, AllocError> {
+    let mut sets = vec![in heap; set]?;
+    sets.extend_from_slice(rest)?;
+    Ok(sets)
 }
 
 // Rests that stand for all: of those on which the same nodes hold, which no event in front can tell apart, the list has one.
@@ -66,7 +58,9 @@ pub fn all_rests(
         let Some(rest) = rests.get(i) else {
             break;
         };
-        for rest in longer(heap, possible, rest.as_slice())? {
+        let rest = rest.clone()?;
+        for set in possible.iter() {
+            let rest = longer(heap, *set, rest.as_slice())?;
             if seen.insert(formula.nodes_holding(heap, rest.as_slice())?)? {
                 rests.push(rest)?;
             }
